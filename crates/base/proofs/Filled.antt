@@ -1,0 +1,57 @@
+-- The laws of `fill`: a loop that stores f i at i, for i from 0 up to n. Assumes nothing.
+use Prim.Native.Nat.{ℕ, zero, suc, _+_, _<_, _≤_}
+use mathlib.Core.Path.{_≡_, refl, sym, ap, subst, _∙_}
+use mathlib.Core.List.{List, [], _∷_}
+use mathlib.Core.Logic.{⊎-elim}
+use native.Mathlib.Nat.{le-of-suc-le-suc, not-suc-le-zero, eq-or-lt-of-le, le-antisymm}
+use native.Mathlib.Numerals.{add-one}
+use native.Mathlib.Omega.{arith}
+use lib.ListN.{length, getD, set, length-set}
+use lib.Seq.{getD-set-same, getD-set-other, set-getD, set-set}
+use Rattle.base.specs.Fill.{fill}
+
+module _ {A : Type 0} (f : ℕ → A) (xs : List A) where
+  pub fill-none : xs ≡ fill f xs 0
+  unfolding fill
+  fill-none = refl
+
+  pub fill-next : (n : ℕ) {ys : List A} {v : A} → ys ≡ fill f xs n → v ≡ f n → set ys n v ≡ fill f xs (n + 1)
+  unfolding fill
+  fill-next n h e = rw (add-one, h, e)
+
+  pub fill-length : (n : ℕ) → length (fill f xs n) ≡ length xs
+  unfolding fill
+  fill-length zero = refl
+  fill-length (suc n) = rw length-set (fill-length n)
+
+  pub fill-past : (n k : ℕ) (d : A) → n ≤ k → getD (fill f xs n) k d ≡ getD xs k d
+  unfolding fill
+  fill-past zero k d l = refl
+  fill-past (suc n) k d l =
+      getD-set-other (fill f xs n) n k (f n) d (λ q. omega (arith, q)) ∙ fill-past n k d (omega arith)
+
+  pub fill-at : (n k : ℕ) (d : A) → n ≤ length xs → k < n → getD (fill f xs n) k d ≡ f k
+  unfolding fill
+  fill-at zero k d m l = absurd (not-suc-le-zero l)
+  fill-at (suc n) k d m l =
+      ⊎-elim
+      (λ q. rw q (getD-set-same (fill f xs n) n (f n) d (omega (arith, fill-length n))))
+      (λ lt. getD-set-other (fill f xs n) n k (f n) d (λ q. omega (arith, q)) ∙ fill-at n k d (omega arith) lt)
+      (eq-or-lt-of-le (le-of-suc-le-suc l))
+
+  pub fill-ends : (i n : ℕ) {ys : List A} → i ≤ n → n ≤ i → ys ≡ fill f xs i → ys ≡ fill f xs n
+  fill-ends i n a b h = h ∙ ap (fill f xs) (le-antisymm a b)
+
+pub ruleset filled = (fill-none, fill-next, fill-ends)
+
+-- A loop in a loop that stores g i j at [i][j]: t₀ is the table where row i begins, and every row was `row` before.
+module _ {A : Type 0} (g : ℕ → ℕ → A) (row : List A) (i : ℕ) where
+  pub nest-none : (f : ℕ → List A) (xs t : List (List A)) (d : List A) → t ≡ fill f xs i → getD xs i d ≡ row → t ≡ set t i (fill (g i) row 0)
+  unfolding fill
+  nest-none f xs t d e r = sym (set-getD t i d) ∙ ap (λ (l : List A). set t i l) (ap (λ (u : List (List A)). getD u i d) e ∙ fill-past f xs i i d (omega arith) ∙ r)
+
+  pub nest-next : (t₀ : List (List A)) (j : ℕ) {t : List (List A)} {v : A} (d : List A) → i < length t₀ → t ≡ set t₀ i (fill (g i) row j) → v ≡ g i j → set t i (set (getD t i d) j v) ≡ set t₀ i (fill (g i) row (j + 1))
+  nest-next t₀ j d h e q = rw (e, getD-set-same t₀ i (fill (g i) row j) d h, set-set, fill-next (g i) row j refl q)
+
+  pub nest-ends : (n j : ℕ) (xs t₀ : List (List A)) {t : List (List A)} → j ≡ n → t ≡ set t₀ i (fill (g i) row j) → t₀ ≡ fill (λ (k : ℕ). fill (g k) row n) xs i → t ≡ fill (λ (k : ℕ). fill (g k) row n) xs (i + 1)
+  nest-ends n j xs t₀ q e h = e ∙ fill-next (λ (k : ℕ). fill (g k) row n) xs i h (ap (fill (g i) row) q)

@@ -1,0 +1,5 @@
+pub mod Below
+pub mod Chain
+pub mod Bits
+pub mod Fill
+pub mod Overlay
