@@ -5,3 +5,5 @@ pub mod Chain
 pub mod Bits
 pub mod Filled
 pub mod Overlaid
+pub mod Table
+pub mod Both

@@ -1,0 +1,82 @@
+-- Opening's checks 1 to 6, on the header of a plant file, and the section call.
+use mathlib.Core.Path.{_≡_}
+use Prim.Native.Nat.{ℕ, _+_, _*_, _≤_, _<_}
+use mathlib.Core.Bool.{Bool, not, cond, _&&_, _||_}
+use mathlib.Core.List.{List, [], _∷_}
+use lib.Dec.{eqb, leb, ltb}
+use lib.ListN.{length}
+use Rattle.base.specs.Below.{allBelow}
+use Rattle.base.specs.Chain.{Test, _⇒_, first}
+use Rattle.layout.specs.Layout.{byteAt, wordAt, sections, headerBytes, fileLimit, limit, count, offset, end, part}
+
+-- 1: at least a header, at most 4,096 bytes, and as long as it says: a file that was cut or padded is noticed at once.
+unfoldable pub lengthRight : List ℕ → Bool
+lengthRight file = leb headerBytes (length file) && (leb (length file) fileLimit && eqb (wordAt file 20) (length file))
+
+-- 2: the edition
+unfoldable pub editionRight : List ℕ → Bool
+editionRight file = eqb (byteAt file 0) 1
+
+-- 3: a count within its range. None is 0, so no section is empty.
+unfoldable pub countRight : ℕ → ℕ → Bool
+countRight k c = leb 1 c && leb c (limit k)
+
+unfoldable pub countsRight : List ℕ → Bool
+countsRight file = allBelow (λ k. countRight k (count file k)) sections
+
+-- 4: the bytes of the header that are always zero
+unfoldable pub zerosRight : List ℕ → Bool
+zerosRight file = eqb (byteAt file 7) 0 && (eqb (byteAt file 22) 0 && eqb (byteAt file 23) 0)
+
+-- 5: section k begins behind the header and ends within the file. It may begin at 24 and end at the file's end.
+unfoldable pub inside : List ℕ → ℕ → Bool
+inside file k = leb headerBytes (offset file k) && leb (end file k) (length file)
+
+unfoldable pub allInside : List ℕ → Bool
+allInside file = allBelow (inside file) sections
+
+-- 6: sections i and j share no byte. One may begin where the other ends.
+unfoldable pub apart : List ℕ → ℕ → ℕ → Bool
+apart file i j = leb (end file i) (offset file j) || leb (end file j) (offset file i)
+
+unfoldable pub allApart : List ℕ → Bool
+allApart file = allBelow (λ i. allBelow (apart file i) i) sections
+
+-- checks 1 to 6 in their order
+abbrev pub placing : List ℕ → List Test
+placing file =
+    not (lengthRight file) ⇒ 1
+    ∷ not (editionRight file) ⇒ 2
+    ∷ not (countsRight file) ⇒ 3
+    ∷ not (zerosRight file) ⇒ 4
+    ∷ not (allInside file) ⇒ 5
+    ∷ not (allApart file) ⇒ 6
+    ∷ []
+
+unfoldable pub placed : List ℕ → ℕ
+placed file = first (placing file)
+
+-- byte b of the file belongs to section k
+pub record InSection (file : List ℕ) (k b : ℕ) : Type 0 where
+  pub from-begin : offset file k ≤ b
+  pub before-end : b < end file k
+
+-- The same six checks in words. proofs/Header has that `placed` is 0 exactly where they hold.
+pub record Placed (file : List ℕ) : Type 0 where
+  pub whole-header : headerBytes ≤ length file
+  pub within-limit : length file ≤ fileLimit
+  pub length-said : wordAt file 20 ≡ length file
+  pub edition : byteAt file 0 ≡ 1
+  pub counts-some : (k : ℕ) → k < sections → 1 ≤ count file k
+  pub counts-fit : (k : ℕ) → k < sections → count file k ≤ limit k
+  pub zero-7 : byteAt file 7 ≡ 0
+  pub zero-22 : byteAt file 22 ≡ 0
+  pub zero-23 : byteAt file 23 ≡ 0
+  pub behind-header : (k : ℕ) → k < sections → headerBytes ≤ offset file k
+  pub within-file : (k : ℕ) → k < sections → end file k ≤ length file
+  pub no-shared-byte : (i j b : ℕ) → i < sections → j < sections → InSection file i b → InSection file j b → i ≡ j
+
+-- The section call: the bytes of section `kind`, or none where one of 1 to 6 fails or there is no such section. It does not look at
+-- 7 to 12: an engineer who mends a file wants to see the section that is wrong.
+unfoldable pub sectionOf : List ℕ → ℕ → List ℕ
+sectionOf file kind = cond (eqb (placed file) 0 && ltb kind sections) (part file kind) []
