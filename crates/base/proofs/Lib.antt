@@ -5,3 +5,6 @@ pub mod Chain
 pub mod Bits
 pub mod Filled
 pub mod Overlaid
+pub mod Last
+pub mod Gather
+pub mod Shared
