@@ -6,13 +6,13 @@ use native.Mathlib.Nat.{le-antisymm}
 use native.Mathlib.Numerals.{add-one}
 use native.Mathlib.Decide.{decLt}
 use native.Mathlib.Omega.{arith}
-use mathlib.Core.Bool.{Bool, true, false, cond, _||_}
-use lib.Dec.{ltb}
-use borrow.Author.Tests.{lt-ltb, le-ltb, ltb-true}
+use mathlib.Core.Bool.{Bool, true, false, cond, not, _||_}
+use lib.Dec.{ltb, eqb}
+use borrow.Author.Tests.{lt-ltb, le-ltb, eq-eqb, ne-eqb}
 use Rattle.base.specs.Below.{anyBelow, firstBelow}
 use Rattle.base.specs.Last.{lastBelow}
 use Rattle.base.proofs.Logic.{split, true-false, or-cases, or-false, or-left, or-right}
-use Rattle.base.proofs.Below.{any-yes, any-no, first-is, first-none}
+use Rattle.base.proofs.Below.{any-yes, any-no, any-same, first-is, first-none}
 
 or-turn : (a b : Bool) → a || b ≡ true → b || a ≡ true
 or-turn true b e = or-right b true refl
@@ -64,3 +64,16 @@ module _ (none : ℕ) (p : ℕ → Bool) where
       let e : firstBelow none p n ≡ lastBelow none p m = only (firstBelow none p n) (lastBelow none p m) (f .below) (l .0) (f .passes) (l .1) in
       rw (← e, lt-ltb (firstBelow none p n) n (f .below)))
       (λ h. rw (le-ltb (lastBelow none p m) n (last-past n m a h), first-none none n p h))
+
+-- what `firstBelow` gives is not `none` where some index passes
+pub first-found : (none n : ℕ) (p : ℕ → Bool) → n ≤ none → not (eqb (firstBelow none p n) none) ≡ anyBelow p n
+first-found none n p a = split (anyBelow p n)
+    (λ h. rw h (ap not (ne-eqb (firstBelow none p n) none (λ e. omega (arith, first-is none n p h .below)))))
+    (λ h. rw h (ap not (eq-eqb _ _ (first-none none n p h))))
+
+-- two tests that agree below the bound have the same lowest index
+pub first-same : (none n : ℕ) (p q : ℕ → Bool) → ((i : ℕ) → i < n → p i ≡ q i) → firstBelow none p n ≡ firstBelow none q n
+unfolding firstBelow
+first-same none zero p q h = refl
+first-same none (suc n) p q h =
+    rw (any-same n p q (λ i l. h i (omega arith)), first-same none n p q (λ i l. h i (omega arith)), h n (omega arith))

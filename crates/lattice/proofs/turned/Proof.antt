@@ -19,4 +19,4 @@ turned-spec =
     tie.close
     (tie.spec Inv-loop μ-loop
     (λ c. search (needs, filled)) (λ c κs. search needs) (λ c. search needs) (λ c. search needs) (λ c. search needs)
-    (λ c. search (needs, filled)) (λ c. search (needs, filled)))
+    (λ c. search needs) (λ c. search (needs, filled)) (λ c. search (needs, filled)))
