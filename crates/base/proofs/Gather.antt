@@ -32,8 +32,8 @@ module _ (d : ℕ → ℕ) where
     low-digit n k l =
         let s : (n - suc k + 1) + k ≡ n = omega arith in
         let e : d n * 2 ^ n ≡ ((d n * 2 ^ (n - suc k)) * 2) * 2 ^ k =
-                ap (λ (m : ℕ). d n * 2 ^ m) (sym s) ∙ ap (λ (m : ℕ). d n * m) (pow-add 2 (n - suc k + 1) k ∙ ap (λ (m : ℕ). m * 2 ^ k) (pow-add 2 (n - suc k) 1))
-                ∙ sym (mul-assoc (d n) (2 ^ (n - suc k) * 2) (2 ^ k)) ∙ ap (λ (m : ℕ). m * 2 ^ k) (sym (mul-assoc (d n) (2 ^ (n - suc k)) 2)) in
+        ap (λ (m : ℕ). d n * 2 ^ m) (sym s) ∙ ap (λ (m : ℕ). d n * m) (pow-add 2 (n - suc k + 1) k ∙ ap (λ (m : ℕ). m * 2 ^ k) (pow-add 2 (n - suc k) 1))
+        ∙ sym (mul-assoc (d n) (2 ^ (n - suc k) * 2) (2 ^ k)) ∙ ap (λ (m : ℕ). m * 2 ^ k) (sym (mul-assoc (d n) (2 ^ (n - suc k)) 2)) in
         rw (e, add-mul-div-right (gather d n) ((d n * 2 ^ (n - suc k)) * 2) (pow-pos k)) (add-mul-mod-self-right (gather d n / 2 ^ k) (d n * 2 ^ (n - suc k)) 2)
 
     -- digit k of the number

@@ -56,7 +56,7 @@ module _ (none : ℕ) (p : ℕ → Bool) where
 
   -- Where an index below n that passes is the only one below m, the last below m is the first below n; from n on it counts for none.
   pub last-first : (n m : ℕ) → n ≤ none → n ≤ m → ((i j : ℕ) → i < n → j < m → p i ≡ true → p j ≡ true → i ≡ j)
-    → cond (ltb (lastBelow none p m) n) (lastBelow none p m) none ≡ firstBelow none p n
+      → cond (ltb (lastBelow none p m) n) (lastBelow none p m) none ≡ firstBelow none p n
   last-first n m a b only = split (anyBelow p n)
       (λ h.
       let f = first-is none n p h in

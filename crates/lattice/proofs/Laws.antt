@@ -32,7 +32,7 @@ module _ (l : Lattice) where
         some-level = leb-true 1 (l .n) (a .0);
         at-most-16 = leb-true (l .n) 16 (b .0);
         sets-from-n = λ i p h. eqb-true (setAt l i) 0 (implies-true (leb (l .n) i) (eqb (setAt l i) 0) (clear i h .0) (le-leb (l .n) i p));
-        bits-from-n = λ i j h p. none-from (l .n) (setAt l i) (clear i h .1) j p
+        bits-from-n = λ i j h p. none-from (l .n) (setAt l i) (clear i h .1) j p;
       }
 
   layout-holds : Layout l → layout l ≡ true
@@ -55,9 +55,9 @@ module _ (n : ℕ) (le : ℕ → ℕ → Bool) where
       record {
         reflexive = all-at n (λ i. le i i) (a .0);
         antisymmetric = λ i j p q u v. eqb-true i j (implies-true (le i j && le j i) (eqb i j)
-          (all-at n (antiAt n le i) (all-at n (λ x. allBelow (antiAt n le x) n) (b .0) i p) j q) (and-both _ _ u v));
+            (all-at n (antiAt n le i) (all-at n (λ x. allBelow (antiAt n le x) n) (b .0) i p) j q) (and-both _ _ u v));
         transitive = λ i j k p q r u v. implies-true (le i j && le j k) (le i k)
-          (all-at n (transAt n le i j) (all-at n (λ y. allBelow (transAt n le i y) n) (all-at n (λ x. allBelow (λ y. allBelow (transAt n le x y) n) n) (b .1) i p) j q) k r) (and-both _ _ u v)
+            (all-at n (transAt n le i j) (all-at n (λ y. allBelow (transAt n le i y) n) (all-at n (λ x. allBelow (λ y. allBelow (transAt n le x y) n) n) (b .1) i p) j q) k r) (and-both _ _ u v);
       }
 
   order-holds : Order n le → ordered n le ≡ true
@@ -80,7 +80,7 @@ module _ (n : ℕ) (le : ℕ → ℕ → Bool) where
         is-level = l;
         above-left = a .0;
         above-right = b .0;
-        least = λ v p x y. implies-true (le i v && le j v) (le u v) (all-at n (underAt n le i j u) (b .1) v p) (and-both _ _ x y)
+        least = λ v p x y. implies-true (le i v && le j v) (le u v) (all-at n (underAt n le i j u) (b .1) v p) (and-both _ _ x y);
       }
 
   pub join-holds : (i j u : ℕ) → Join n le i j u → isJoin n le i j u ≡ true

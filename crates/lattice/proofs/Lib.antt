@@ -1,2 +1,4 @@
 pub mod Laws
 pub mod Sets
+pub mod Meets
+pub mod Tables

@@ -19,7 +19,7 @@ use Rattle.base.proofs.Last.{last-first, first-same}
 use Rattle.base.proofs.Shared.{Within, shared, shared-at, zero-bits}
 use Rattle.lattice.specs.Order.{Order, Join}
 use Rattle.lattice.specs.Levels.{Layout, ordered, isJoin, joinOf}
-use Rattle.lattice.specs.Sets.{withSets, underIn, Sound, pairOrdered, isSet}
+use Rattle.lattice.specs.Sets.{withSets, underIn, Sound, pairOrdered, rowOrdered, isSet}
 use Rattle.lattice.proofs.Laws.{order-iff, join-says, join-holds}
 
 module _ (n : ℕ) (s : List ℕ) where
@@ -47,13 +47,13 @@ module _ (n : ℕ) (s : List ℕ) where
   pairs-order h = record {
     reflexive = λ i p. pair-same i i (h i p i p) refl;
     antisymmetric = λ i j p q u v. split (eqb i j)
-      (λ z. eqb-true i j z)
-      (λ z. absurd (true-false (sym v ∙ not-true (underIn s j i) (pair-other i j (h i p j q) z u .0))));
+        (λ z. eqb-true i j z)
+        (λ z. absurd (true-false (sym v ∙ not-true (underIn s j i) (pair-other i j (h i p j q) z u .0))));
     transitive = λ i j k p q r u v. split (eqb i j)
-      (λ z. rw (eqb-true i j z) v)
-      (λ z.
-      let lies : set j ≡ bitAnd (set i) (set j) = sym (eqb-true _ _ (pair-other i j (h i p j q) z u .1)) in
-      and-true (underIn s i k) (underIn s j k) (sym (shared-at (set j) (set i) (set j) lies k) ∙ v) .0)
+        (λ z. rw (eqb-true i j z) v)
+        (λ z.
+        let lies : set j ≡ bitAnd (set i) (set j) = sym (eqb-true _ _ (pair-other i j (h i p j q) z u .1)) in
+        and-true (underIn s i k) (underIn s j k) (sym (shared-at (set j) (set i) (set j) lies k) ∙ v) .0);
   }
 
   module _ (y : Layout (withSets n s)) (o : Order n (underIn s)) (i : ℕ) (p : i < n) (j : ℕ) (q : j < n) where
@@ -67,10 +67,10 @@ module _ (n : ℕ) (s : List ℕ) where
     order-pair = split (eqb i j) (λ z. rw z (o .reflexive i p)) (λ z. rw z (implies-intro (underIn s i j) (strictly i j) (order-strictly z)))
 
   -- 8 by whole sets: each pair passes where the levels are in order, and only there.
-  pub pairs-ordered : Layout (withSets n s) → allBelow (λ i. allBelow (pairOrdered s i) n) n ≡ ordered n (underIn s)
+  pub pairs-ordered : Layout (withSets n s) → allBelow (rowOrdered s n) n ≡ ordered n (underIn s)
   pairs-ordered y = same-test _ _
-      (λ e. order-iff n (underIn s) .1 (pairs-order (λ i p j q. all-at n (pairOrdered s i) (all-at n (λ x. allBelow (pairOrdered s x) n) e i p) j q)))
-      (λ e. let o = order-iff n (underIn s) .0 e in all-yes n _ (λ i p. all-yes n (pairOrdered s i) (order-pair y o i p)))
+      (λ e. order-iff n (underIn s) .1 (pairs-order (λ i p j q. all-at n (pairOrdered s i) (all-at n (rowOrdered s n) e i p) j q)))
+      (λ e. let o = order-iff n (underIn s) .0 e in all-yes n (rowOrdered s n) (λ i p. all-yes n (pairOrdered s i) (order-pair y o i p)))
 
   module _ (w : Sound n s) (i j : ℕ) (p : i < n) (q : j < n) where
     -- THE LAW: level k is the join of i and j where its set is what theirs share, and only there.

@@ -5,7 +5,7 @@ use mathlib.Core.List.{List}
 use lib.Dec.{eqb}
 use lib.Bits.{bitAnd}
 use lib.ListN.{getD, replicate}
-use Rattle.base.specs.Below.{implies}
+use Rattle.base.specs.Below.{allBelow, implies}
 use Rattle.base.specs.Fill.{fill}
 use Rattle.base.specs.Gather.{gather}
 use Rattle.lattice.specs.declared.Lattice.{Lattice}
@@ -28,6 +28,10 @@ pub record Sound (n : ℕ) (s : List ℕ) : Type 0 where
 abbrev pub pairOrdered : List ℕ → ℕ → ℕ → Bool
 pairOrdered s i j =
     cond (eqb i j) (underIn s i i) (implies (underIn s i j) (not (underIn s j i) && eqb (bitAnd (getD s i 0) (getD s j 0)) (getD s j 0)))
+
+-- level i is in order with each level
+abbrev pub rowOrdered : List ℕ → ℕ → ℕ → Bool
+rowOrdered s n i = allBelow (pairOrdered s i) n
 
 -- set k is x
 abbrev pub isSet : List ℕ → ℕ → ℕ → Bool

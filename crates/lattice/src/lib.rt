@@ -7,7 +7,7 @@ ghost use Rattle.base.specs.Below.{allBelow};
 ghost use Rattle.base.specs.Bits.{bit};
 ghost use Rattle.base.specs.Last.{lastBelow};
 ghost use Rattle.lattice.specs.Levels.{Layout, setClear, layout, ordered, joinOf, complete, refusal};
-ghost use Rattle.lattice.specs.Sets.{withSets, underIn, Sound, pairOrdered, isSet, turnedSet, turnedSets};
+ghost use Rattle.lattice.specs.Sets.{withSets, underIn, Sound, pairOrdered, rowOrdered, isSet, turnedSet, turnedSets};
 ghost use Rattle.lattice.specs.Table.{joinRow, joinTable, rowFull, tableFull};
 
 // A lattice record: n levels, and bit j of sets[i] where level i is at or under level j.
@@ -89,7 +89,7 @@ fn pair_ordered(s: &[u16; 16], i: usize, j: usize) -> bool
 
 fn row_ordered(s: &[u16; 16], n: usize, i: usize) -> bool
     requires { ⌜ (n ≤ 16) × (i < 16) ⌝ }
-    ensures { λ r. ⌜ r ≡ allBelow (pairOrdered (now (s .entry)) i) n ⌝ }
+    ensures { λ r. ⌜ r ≡ rowOrdered (now (s .entry)) n i ⌝ }
 {
     let mut j: usize = 0;
     while j < n {
@@ -164,11 +164,7 @@ fn join(s: &[u16; 16], n: usize, i: usize, j: usize) -> u8
     ensures { λ r. ⌜ r ≡ joinOf n (underIn (now (s .entry))) i j ⌝ }
 {
     let k = level_of(s, s[i] & s[j]);
-    if (k as usize) < n {
-        k as u8
-    } else {
-        255
-    }
+    if (k as usize) < n { k as u8 } else { 255 }
 }
 
 fn join_row(s: &[u16; 16], n: usize, i: usize) -> [u8; 16]

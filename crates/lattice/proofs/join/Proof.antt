@@ -1,56 +1,34 @@
+-- `lattice::join` meets its contract, by the law that the join of two levels is the level whose set is what theirs share. Assumes nothing.
+use Prim.Native.Nat.{ℕ, _≤_, _<_}
+use mathlib.Core.Path.{_≡_, _∙_}
+use mathlib.Core.Bool.{cond}
+use lib.Dec.{ltb}
 use borrow.Author.Needs.{needs}
+use borrow.Author.Tests.{lt-ltb, le-ltb}
+use Rattle.lattice.proofs.Sets.{join-found}
 use Rattle.lattice.proofs.join.Statement.{statement}
 use Rattle.lattice.proofs.join.Tie as tie
-use Rattle.lattice.proofs.join.Reads as reads
-use Rattle.lattice.proofs.join.Lts as lts
-use Rattle.lattice.proofs.level_of.Reads as level-of-reads
 
--- src/lib.rt:155:25
-mul-level-of : tie.Need-mul-level-of
-mul-level-of c = search needs
+-- k is what the search gave, and x what it is by contract
+a-level : (n : ℕ) {k x : ℕ} → k ≡ x → k < n → k ≡ cond (ltb x n) x 255
+a-level n {k} e h = rw (← e, lt-ltb k n h)
 
--- src/lib.rt:155:25
-element-copy-out-level-of : tie.Need-element-copy-out-level-of
-element-copy-out-level-of c = search needs
+no-level : (n : ℕ) {k x : ℕ} → k ≡ x → n ≤ k → 255 ≡ cond (ltb x n) x 255
+no-level n {k} e h = rw (← e, le-ltb k n h)
 
--- src/lib.rt:155:32
-mul-level-of-2 : tie.Need-mul-level-of-2
-mul-level-of-2 c = search needs
+found : tie.Need-returns
+found c =
+    let o = c .before .before .before .before in
+    a-level _ (c .before .level-of .ensures) (c .if1 .taken) ∙ join-found _ _ (o .pre .0) _ _ (o .pre .1 .0) (o .pre .1 .1)
 
--- src/lib.rt:155:32
-element-copy-out-level-of-2 : tie.Need-element-copy-out-level-of-2
-element-copy-out-level-of-2 c = search needs
-
--- src/lib.rt:155:9
-level-of-requires : tie.Need-level-of-requires
-level-of-requires c κs = search needs
-
--- src/lib.rt:156:9
-cast-if1 : tie.Need-cast-if1
-cast-if1 c = search needs
-
--- src/lib.rt:157:9
-cast-result : tie.Need-cast-result
-cast-result c = search needs
-
--- src/lib.rt:151:1
-returns : tie.Need-returns
-returns c = search needs
-
--- src/lib.rt:151:1
-returns-2 : tie.Need-returns-2
-returns-2 c = search needs
+none : tie.Need-returns-2
+none c =
+    let o = c .before .before .before .before in
+    no-level _ (c .before .level-of .ensures) (c .if1 .left) ∙ join-found _ _ (o .pre .0) _ _ (o .pre .1 .0) (o .pre .1 .1)
 
 pub join-spec : {M : Type 1} → statement M
 join-spec =
     tie.close
     (tie.spec
-    mul-level-of
-    element-copy-out-level-of
-    mul-level-of-2
-    element-copy-out-level-of-2
-    level-of-requires
-    cast-if1
-    cast-result
-    returns
-    returns-2)
+    (λ c. search needs) (λ c. search needs) (λ c. search needs) (λ c. search needs) (λ c κs. search needs) (λ c. search needs)
+    (λ c. search needs) found none)

@@ -17,12 +17,13 @@ abbrev μ-loop : tie.MeasureT-loop
 μ-loop s x found₀ k₀ found k = 16 - k
 
 loop-again : tie.Need-loop-again Inv-loop μ-loop
-loop-again c =
-    (search needs,
-    ⊎-elim
-    (λ w. w .1 ∙ last-hit _ _ _ (eq-eqb _ _ (w .0 .taken)))
-    (λ w. w .1 ∙ last-miss _ _ _ (c .before .before .before .loop .inv .1) (ne-eqb _ _ (w .0 .left)))
-    (c .if1 .came))
+loop-again c = (
+  search needs,
+  ⊎-elim
+      (λ w. w .1 ∙ last-hit _ _ _ (eq-eqb _ _ (w .0 .taken)))
+      (λ w. w .1 ∙ last-miss _ _ _ (c .before .before .before .loop .inv .1) (ne-eqb _ _ (w .0 .left)))
+      (c .if1 .came),
+)
 
 returns : tie.Need-returns Inv-loop μ-loop
 returns c = last-ends _ _ _ _ (search needs) (search needs) (c .before .loop .inv .1)

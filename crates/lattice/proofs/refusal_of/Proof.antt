@@ -1,53 +1,42 @@
+-- `lattice::refusal_of` meets its contract for every record: each test that passed is what the next one relies on. Assumes nothing.
+use mathlib.Core.Path.{sym, _∙_}
 use borrow.Author.Needs.{needs}
+use borrow.Author.Tests.{not-false}
+use Rattle.base.proofs.Chain.{chain}
+use Rattle.lattice.specs.Levels.{refusal}
+use Rattle.lattice.proofs.Laws.{layout-iff, order-iff}
 use Rattle.lattice.proofs.refusal_of.Statement.{statement}
 use Rattle.lattice.proofs.refusal_of.Tie as tie
-use Rattle.lattice.proofs.refusal_of.Reads as reads
-use Rattle.lattice.proofs.refusal_of.Lts as lts
-use Rattle.lattice.proofs.in_order.Reads as in-order-reads
-use Rattle.lattice.proofs.is_complete.Reads as is-complete-reads
-use Rattle.lattice.proofs.laid_out.Reads as laid-out-reads
 
--- src/lib.rt:247:13
-cast-n : tie.Need-cast-n
-cast-n c = search needs
+laid-out : tie.Need-in-order-requires
+laid-out c κs = layout-iff _ .0 (sym (c .before .before .laid-out .ensures) ∙ not-false _ (c .before .if1 .left))
 
--- src/lib.rt:249:9
-laid-out-requires : tie.Need-laid-out-requires
-laid-out-requires c κs = search needs
+sound : tie.Need-is-complete-requires
+sound c κs =
+    let o = c .before .before in
+    let e = o .before .before in
+    record {
+      clean = layout-iff _ .0 (sym (e .before .laid-out .ensures) ∙ not-false _ (e .if1 .left));
+      order = order-iff _ _ .0 (sym (o .in-order .ensures) ∙ not-false _ (c .before .if2 .left));
+    }
 
--- src/lib.rt:250:9
-returns : tie.Need-returns
-returns c = search needs
+seven : tie.Need-returns
+unfolding refusal
+seven c = search chain depth 12
 
--- src/lib.rt:252:9
-in-order-requires : tie.Need-in-order-requires
-in-order-requires c κs = search needs
+eight : tie.Need-returns-2
+unfolding refusal
+eight c = search chain depth 12
 
--- src/lib.rt:253:9
-returns-2 : tie.Need-returns-2
-returns-2 c = search needs
+nine : tie.Need-returns-3
+unfolding refusal
+nine c = search chain depth 12
 
--- src/lib.rt:255:9
-is-complete-requires : tie.Need-is-complete-requires
-is-complete-requires c κs = search needs
-
--- src/lib.rt:256:9
-returns-3 : tie.Need-returns-3
-returns-3 c = search needs
-
--- src/lib.rt:244:1
-returns-4 : tie.Need-returns-4
-returns-4 c = search needs
+accepted : tie.Need-returns-4
+unfolding refusal
+accepted c = search chain depth 12
 
 pub refusal-of-spec : {M : Type 1} → statement M
 refusal-of-spec =
     tie.close
-    (tie.spec
-    cast-n
-    laid-out-requires
-    returns
-    in-order-requires
-    returns-2
-    is-complete-requires
-    returns-3
-    returns-4)
+    (tie.spec (λ c. search needs) (λ c κs. search needs) seven laid-out eight sound nine accepted)
