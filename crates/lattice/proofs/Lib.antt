@@ -2,3 +2,4 @@ pub mod Laws
 pub mod Sets
 pub mod Meets
 pub mod Tables
+pub mod Verdict
