@@ -3,7 +3,7 @@
 use Prim.Native.Nat.{ℕ, _+_, _<_, _≤_}
 use mathlib.Core.Bool.{Bool, true, false, not, _&&_, _||_}
 use mathlib.Core.Path.{_≡_, refl, sym, ap, _∙_}
-use borrow.Author.Tests.{not-true, not-false}
+use borrow.Author.Tests.{not-true, not-false, lt-ltb, le-ltb, le-leb, lt-leb, eq-eqb, ne-eqb}
 use native.Mathlib.Nat.{le-antisymm}
 use native.Mathlib.Numerals.{add-one}
 use Rattle.base.specs.Below.{allBelow, anyBelow, firstBelow}
@@ -43,12 +43,15 @@ module _ (p : ℕ → Bool) where
   pub any-ends : (i n : ℕ) → i ≤ n → n ≤ i → anyBelow p i ≡ false → false ≡ anyBelow p n
   any-ends i n a b h = sym (ap (anyBelow p) (le-antisymm b a) ∙ h)
 
+  pub any-hits : (i n : ℕ) → i < n → p i ≡ true → true ≡ anyBelow p n
+  any-hits i n l e = sym (any-yes n p i l e)
+
   -- `if test(i) { return true; }`
   pub any-on : (i : ℕ) {r : Bool} → r ≡ false → r ≡ p i → anyBelow p i ≡ false → anyBelow p (i + 1) ≡ false
   any-on i t e h = any-more i h (sym e ∙ t)
 
   pub any-off : (i n : ℕ) {r : Bool} → i < n → r ≡ true → r ≡ p i → true ≡ anyBelow p n
-  any-off i n l t e = sym (any-yes n p i l (sym e ∙ t))
+  any-off i n l t e = any-hits i n l (sym e ∙ t)
 
   -- `if test(i) { return i; }`
   pub first-off : (none i n : ℕ) {r : Bool} → i < n → r ≡ true → r ≡ p i → anyBelow p i ≡ false → i ≡ firstBelow none p n
@@ -64,3 +67,8 @@ pub ruleset scan = (all-none, all-on, all-off, all-ends)
 pub ruleset scan-any = (any-none-yet, any-on, any-off, any-ends)
 
 pub ruleset scan-first = (any-none-yet, any-on, first-off, first-ends)
+
+-- the same where the turn's test is a comparison and no call
+pub ruleset scan-compare = (all-none, all-more, all-stops, all-ends, lt-ltb, le-ltb, le-leb, lt-leb, eq-eqb, ne-eqb)
+
+pub ruleset scan-any-compare = (any-none-yet, any-more, any-hits, any-ends, lt-ltb, le-ltb, le-leb, lt-leb, eq-eqb, ne-eqb)

@@ -1,9 +1,253 @@
 // Lattices of levels: the test that a lattice record is a lattice, by its table of joins and its table of meets.
 ghost use mathlib.Core.Path.{_≡_};
-ghost use Rattle.lattice.specs.Levels.{refusal};
+ghost use mathlib.Core.Bool.{Bool, true};
+ghost use Prim.Native.Nat.{ℕ, _<_, _≤_};
+ghost use lib.ListN.{getD};
+ghost use Rattle.base.specs.Below.{allBelow};
+ghost use Rattle.base.specs.Bits.{bit};
+ghost use Rattle.base.specs.Last.{lastBelow};
+ghost use Rattle.lattice.specs.Levels.{Layout, setClear, layout, ordered, joinOf, complete, refusal};
+ghost use Rattle.lattice.specs.Sets.{withSets, underIn, Sound, pairOrdered, rowOrdered, isSet, turnedSet, turnedSets};
+ghost use Rattle.lattice.specs.Table.{joinRow, joinTable, rowFull, tableFull};
 
 // A lattice record: n levels, and bit j of sets[i] where level i is at or under level j.
 pub struct Lattice {
     pub n: u8,
     pub sets: [u16; 16],
+}
+
+fn wide(x: u16) -> u32
+    ensures { λ r. ⌜ r ≡ x ⌝ }
+{
+    x as u32
+}
+
+// Set i has no bit from n on, and none at all where level i is not used. A shift by 16 wants the wider number.
+fn set_clear(s: &[u16; 16], n: usize, i: usize) -> bool
+    requires { ⌜ (n ≤ 16) × (i < 16) ⌝ }
+    ensures { λ r. ⌜ r ≡ setClear (withSets n (now (s .entry))) i ⌝ }
+{
+    let x = wide(s[i]);
+    if n <= i {
+        return x == 0;
+    }
+    x >> n == 0
+}
+
+fn sets_clear(s: &[u16; 16], n: usize) -> bool
+    requires { ⌜ n ≤ 16 ⌝ }
+    ensures { λ r. ⌜ r ≡ allBelow (setClear (withSets n (now (s .entry)))) 16 ⌝ }
+{
+    let mut i: usize = 0;
+    while i < 16 {
+        if !set_clear(s, n, i) {
+            return false;
+        }
+        i += 1;
+    }
+    true
+}
+
+// 7: the record keeps its layout.
+fn laid_out(s: &[u16; 16], n: usize) -> bool
+    ensures { λ r. ⌜ r ≡ layout (withSets n (now (s .entry))) ⌝ }
+{
+    if n < 1 {
+        return false;
+    }
+    if n > 16 {
+        return false;
+    }
+    sets_clear(s, n)
+}
+
+fn has(x: u16, i: usize) -> bool
+    requires { ⌜ i < 16 ⌝ }
+    ensures { λ r. ⌜ r ≡ bit x i ⌝ }
+{
+    (x >> i) % 2 == 1
+}
+
+// Levels i and j are in order. What lies above j is compared as a whole set, and not level by level.
+fn pair_ordered(s: &[u16; 16], i: usize, j: usize) -> bool
+    requires { ⌜ (i < 16) × (j < 16) ⌝ }
+    ensures { λ r. ⌜ r ≡ pairOrdered (now (s .entry)) i j ⌝ }
+{
+    let a = s[i];
+    let b = s[j];
+    if i == j {
+        return has(a, i);
+    }
+    if !has(a, j) {
+        return true;
+    }
+    if has(b, i) {
+        return false;
+    }
+    a & b == b
+}
+
+fn row_ordered(s: &[u16; 16], n: usize, i: usize) -> bool
+    requires { ⌜ (n ≤ 16) × (i < 16) ⌝ }
+    ensures { λ r. ⌜ r ≡ rowOrdered (now (s .entry)) n i ⌝ }
+{
+    let mut j: usize = 0;
+    while j < n {
+        if !pair_ordered(s, i, j) {
+            return false;
+        }
+        j += 1;
+    }
+    true
+}
+
+// 8: the levels are in order.
+fn in_order(s: &[u16; 16], n: usize) -> bool
+    requires { ⌜ Layout (withSets n (now s)) ⌝ }
+    ensures { λ r. ⌜ r ≡ ordered n (underIn (now (s .entry))) ⌝ }
+{
+    let mut i: usize = 0;
+    while i < n {
+        if !row_ordered(s, n, i) {
+            return false;
+        }
+        i += 1;
+    }
+    true
+}
+
+// Bit j of each set, gathered: the levels at or under level j.
+fn turned_set(s: &[u16; 16], j: usize) -> u16
+    requires { ⌜ j < 16 ⌝ }
+    ensures { λ r. ⌜ r ≡ turnedSet (now (s .entry)) j ⌝ }
+{
+    let mut x: u16 = 0;
+    let mut i: usize = 0;
+    while i < 16 {
+        x = x + (((s[i] >> j) % 2) << i);
+        i += 1;
+    }
+    x
+}
+
+// The sets of the turned order, in which a join is a meet of the given one.
+fn turned(s: &[u16; 16]) -> [u16; 16]
+    ensures { λ r. ⌜ r ≡ turnedSets (now (s .entry)) ⌝ }
+{
+    let mut t = [0u16; 16];
+    let mut j: usize = 0;
+    while j < 16 {
+        t[j] = turned_set(s, j);
+        j += 1;
+    }
+    t
+}
+
+// The level whose set is x, or 255. It looks at all 16 sets and never leaves early, so that they are compared side by side.
+fn level_of(s: &[u16; 16], x: u16) -> u16
+    ensures { λ r. ⌜ r ≡ lastBelow 255 (isSet (now (s .entry)) x) 16 ⌝ }
+{
+    let mut found: u16 = 255;
+    let mut k: usize = 0;
+    while k < 16 {
+        if s[k] == x {
+            found = k as u16;
+        }
+        k += 1;
+    }
+    found
+}
+
+// The join of i and j: the level whose set is what their sets share. A set that is not used is no level's.
+fn join(s: &[u16; 16], n: usize, i: usize, j: usize) -> u8
+    requires { ⌜ Sound n (now s) × ((i < n) × (j < n)) ⌝ }
+    ensures { λ r. ⌜ r ≡ joinOf n (underIn (now (s .entry))) i j ⌝ }
+{
+    let k = level_of(s, s[i] & s[j]);
+    if (k as usize) < n { k as u8 } else { 255 }
+}
+
+fn join_row(s: &[u16; 16], n: usize, i: usize) -> [u8; 16]
+    requires { ⌜ Sound n (now s) × (i < n) ⌝ }
+    ensures { λ r. ⌜ r ≡ joinRow n (underIn (now (s .entry))) i ⌝ }
+{
+    let mut row = [255u8; 16];
+    let mut j: usize = 0;
+    while j < n {
+        row[j] = join(s, n, i, j);
+        j += 1;
+    }
+    row
+}
+
+// The table of joins. Of the turned sets it is the table of meets.
+fn joins(s: &[u16; 16], n: usize) -> [[u8; 16]; 16]
+    requires { ⌜ Sound n (now s) ⌝ }
+    ensures { λ r. ⌜ r ≡ joinTable n (underIn (now (s .entry))) ⌝ }
+{
+    let row = [255u8; 16];
+    let mut t = [row; 16];
+    let mut i: usize = 0;
+    while i < n {
+        t[i] = join_row(s, n, i);
+        i += 1;
+    }
+    t
+}
+
+fn row_full(row: [u8; 16], n: usize) -> bool
+    requires { ⌜ n ≤ 16 ⌝ }
+    ensures { λ r. ⌜ r ≡ rowFull n row ⌝ }
+{
+    let mut j: usize = 0;
+    while j < n {
+        if row[j] == 255 {
+            return false;
+        }
+        j += 1;
+    }
+    true
+}
+
+// Each pair of levels has its entry.
+fn full(t: [[u8; 16]; 16], n: usize) -> bool
+    requires { ⌜ n ≤ 16 ⌝ }
+    ensures { λ r. ⌜ r ≡ tableFull n t ⌝ }
+{
+    let mut i: usize = 0;
+    while i < n {
+        let row = t[i];
+        if !row_full(row, n) {
+            return false;
+        }
+        i += 1;
+    }
+    true
+}
+
+// 9: each pair of levels has a join and a meet.
+fn is_complete(s: &[u16; 16], n: usize) -> bool
+    requires { ⌜ Sound n (now s) ⌝ }
+    ensures { λ r. ⌜ r ≡ complete (withSets n (now (s .entry))) ⌝ }
+{
+    let t = turned(s);
+    full(joins(s, n), n) && full(joins(&t, n), n)
+}
+
+// The number that refuses a lattice record, or 0.
+pub fn refusal_of(l: Lattice) -> u8
+    ensures { λ r. ⌜ r ≡ refusal l ⌝ }
+{
+    let n = l.n as usize;
+    let s = l.sets;
+    if !laid_out(&s, n) {
+        return 7;
+    }
+    if !in_order(&s, n) {
+        return 8;
+    }
+    if !is_complete(&s, n) {
+        return 9;
+    }
+    0
 }

@@ -1,0 +1,5 @@
+pub mod Laws
+pub mod Sets
+pub mod Meets
+pub mod Tables
+pub mod Verdict

@@ -1,0 +1,105 @@
+-- What whole sets say of single levels: two sets that share their bits, and the join of two levels as the level whose set is what theirs share.
+-- Assumes nothing.
+use mathlib.Core.Path.{_≡_, refl, sym, ap, subst, _∙_}
+use Prim.Native.Nat.{ℕ, _≤_, _<_}
+use native.Mathlib.Omega.{arith}
+use native.Mathlib.Decide.{decLt}
+use mathlib.Core.Bool.{Bool, true, false, cond, not, _&&_}
+use mathlib.Core.List.{List}
+use lib.Bits.{bitAnd}
+use lib.Dec.{eqb, ltb}
+use lib.ListN.{getD}
+use borrow.Author.Tests.{eqb-true, eqb-false, eq-eqb, not-true}
+use Rattle.base.specs.Below.{allBelow, firstBelow, implies}
+use Rattle.base.specs.Bits.{bit}
+use Rattle.base.specs.Last.{lastBelow}
+use Rattle.base.proofs.Logic.{split, true-false, same-test, and-true, and-both, implies-true, implies-intro, not-is-true}
+use Rattle.base.proofs.Below.{all-at, all-yes}
+use Rattle.base.proofs.Last.{last-first, first-same}
+use Rattle.base.proofs.Shared.{Within, shared, shared-at, zero-bits}
+use Rattle.lattice.specs.Order.{Order, Join}
+use Rattle.lattice.specs.Levels.{Layout, ordered, isJoin, joinOf}
+use Rattle.lattice.specs.Sets.{withSets, underIn, Sound, pairOrdered, rowOrdered, isSet}
+use Rattle.lattice.proofs.Laws.{order-iff, join-says, join-holds}
+
+module _ (n : ℕ) (s : List ℕ) where
+  abbrev set : ℕ → ℕ
+  set i = getD s i 0
+
+  -- where i is under another level j: j is not under i, and the set of j lies in that of i
+  abbrev strictly : ℕ → ℕ → Bool
+  strictly i j = not (underIn s j i) && eqb (bitAnd (set i) (set j)) (set j)
+
+  -- no bit of a level's set from n on
+  within : Layout (withSets n s) → (i : ℕ) → i < n → Within n (set i)
+  within y i l j h = y .bits-from-n i j (omega (arith, y .at-most-16)) h
+
+  module _ (i j : ℕ) (e : pairOrdered s i j ≡ true) where
+    pair-same : i ≡ j → underIn s i i ≡ true
+    pair-same z = rw (eq-eqb i j z) at e
+
+    pair-other : eqb i j ≡ false → underIn s i j ≡ true → (not (underIn s j i) ≡ true) × (eqb (bitAnd (set i) (set j)) (set j) ≡ true)
+    pair-other z u =
+        let f : implies (underIn s i j) (strictly i j) ≡ true = rw z at e in
+        and-true (not (underIn s j i)) (eqb (bitAnd (set i) (set j)) (set j)) (implies-true (underIn s i j) (strictly i j) f u)
+
+  pairs-order : ((i : ℕ) → i < n → (j : ℕ) → j < n → pairOrdered s i j ≡ true) → Order n (underIn s)
+  pairs-order h = record {
+    reflexive = λ i p. pair-same i i (h i p i p) refl;
+    antisymmetric = λ i j p q u v. split (eqb i j)
+        (λ z. eqb-true i j z)
+        (λ z. absurd (true-false (sym v ∙ not-true (underIn s j i) (pair-other i j (h i p j q) z u .0))));
+    transitive = λ i j k p q r u v. split (eqb i j)
+        (λ z. rw (eqb-true i j z) v)
+        (λ z.
+        let lies : set j ≡ bitAnd (set i) (set j) = sym (eqb-true _ _ (pair-other i j (h i p j q) z u .1)) in
+        and-true (underIn s i k) (underIn s j k) (sym (shared-at (set j) (set i) (set j) lies k) ∙ v) .0);
+  }
+
+  module _ (y : Layout (withSets n s)) (o : Order n (underIn s)) (i : ℕ) (p : i < n) (j : ℕ) (q : j < n) where
+    order-strictly : eqb i j ≡ false → underIn s i j ≡ true → strictly i j ≡ true
+    order-strictly z u = and-both _ _
+        (not-is-true (underIn s j i) (split (underIn s j i) (λ v. absurd (eqb-false i j z (o .antisymmetric i j p q u v))) (λ v. v)))
+        (eq-eqb _ _ (sym (shared n (set j) (set i) (set j) (within y j q) (within y i p) (within y j q)
+        (λ k r. same-test (underIn s j k) (underIn s i k && underIn s j k) (λ v. and-both _ _ (o .transitive i j k p q r u v) v) (λ w. and-true (underIn s i k) (underIn s j k) w .1)))))
+
+    order-pair : pairOrdered s i j ≡ true
+    order-pair = split (eqb i j) (λ z. rw z (o .reflexive i p)) (λ z. rw z (implies-intro (underIn s i j) (strictly i j) (order-strictly z)))
+
+  -- 8 by whole sets: each pair passes where the levels are in order, and only there.
+  pub pairs-ordered : Layout (withSets n s) → allBelow (rowOrdered s n) n ≡ ordered n (underIn s)
+  pairs-ordered y = same-test _ _
+      (λ e. order-iff n (underIn s) .1 (pairs-order (λ i p j q. all-at n (pairOrdered s i) (all-at n (rowOrdered s n) e i p) j q)))
+      (λ e. let o = order-iff n (underIn s) .0 e in all-yes n (rowOrdered s n) (λ i p. all-yes n (pairOrdered s i) (order-pair y o i p)))
+
+  module _ (w : Sound n s) (i j : ℕ) (p : i < n) (q : j < n) where
+    -- THE LAW: level k is the join of i and j where its set is what theirs share, and only there.
+    pub join-set : (k : ℕ) → k < n → isSet s (bitAnd (set i) (set j)) k ≡ isJoin n (underIn s) i j k
+    join-set k r = same-test _ _
+        (λ e.
+        let both = shared-at (set k) (set i) (set j) (eqb-true _ _ e) in
+        let own = and-true (underIn s i k) (underIn s j k) (sym (both k) ∙ w .order .reflexive k r) in
+        join-holds n (underIn s) i j k (record { is-level = r; above-left = own .0; above-right = own .1; least = λ v l a b. both v ∙ and-both _ _ a b }))
+        (λ e.
+        let t = join-says n (underIn s) i j k r e in
+        eq-eqb _ _ (shared n (set k) (set i) (set j) (within (w .clean) k r) (within (w .clean) i p) (within (w .clean) j q)
+        (λ v l. same-test (underIn s k v) (underIn s i v && underIn s j v)
+        (λ h. and-both _ _ (w .order .transitive i k v p r l (t .above-left) h) (w .order .transitive j k v q r l (t .above-right) h))
+        (λ h. let g = and-true (underIn s i v) (underIn s j v) h in t .least v l (g .0) (g .1)))))
+
+    -- no two levels have one set, and no level has the set of a place that is not used
+    set-alone : (x k m : ℕ) → k < n → m < 16 → isSet s x k ≡ true → isSet s x m ≡ true → k ≡ m
+    set-alone x k m r l a b =
+        let same : set k ≡ set m = eqb-true _ _ a ∙ sym (eqb-true _ _ b) in
+        let own = w .order .reflexive k r in
+        elim (decLt m n) [
+          | yes h ↦ w .order .antisymmetric k m r h (ap (λ (z : ℕ). bit z m) same ∙ w .order .reflexive m h) (ap (λ (z : ℕ). bit z k) (sym same) ∙ own)
+          | no h ↦ absurd (true-false (sym own ∙ ap (λ (z : ℕ). bit z k) (same ∙ w .clean .sets-from-n m (omega arith) l) ∙ zero-bits k))
+        ]
+
+    pub join-found : cond (ltb (lastBelow 255 (isSet s (bitAnd (set i) (set j))) 16) n) (lastBelow 255 (isSet s (bitAnd (set i) (set j))) 16) 255 ≡ joinOf n (underIn s) i j
+    unfolding joinOf
+    join-found =
+        let b : n ≤ 16 = w .clean .at-most-16 in
+        last-first 255 (isSet s (bitAnd (set i) (set j))) n 16 (omega arith) b (set-alone (bitAnd (set i) (set j)))
+        ∙ first-same 255 n (isSet s (bitAnd (set i) (set j))) (isJoin n (underIn s) i j) join-set

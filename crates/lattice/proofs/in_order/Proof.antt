@@ -1,0 +1,31 @@
+-- `lattice::in_order` meets its contract: a scan of the rows, and the law that pairs compared by whole sets are in order. Assumes nothing.
+use Prim.Native.Nat.{_≤_, _-_}
+use mathlib.Core.Path.{_≡_, _∙_}
+use mathlib.Core.Bool.{true, false}
+use borrow.Author.Needs.{needs}
+use Rattle.base.specs.Below.{allBelow}
+use Rattle.base.proofs.Scan.{scan, all-off, all-ends}
+use Rattle.lattice.specs.Sets.{rowOrdered}
+use Rattle.lattice.proofs.Sets.{pairs-ordered}
+use Rattle.lattice.proofs.in_order.Statement.{statement}
+use Rattle.lattice.proofs.in_order.Tie as tie
+
+abbrev Inv-loop : tie.InvT-loop
+Inv-loop s n i₀ i = (i ≤ n) × (allBelow (rowOrdered s n) i ≡ true)
+
+abbrev μ-loop : tie.MeasureT-loop
+μ-loop s n i₀ i = n - i
+
+stops : tie.Need-returns Inv-loop μ-loop
+stops c =
+    let o = c .before .before .before .before in
+    all-off (rowOrdered (o .args .s .now) (o .args .n)) _ _ (search needs) (c .if1 .taken) (c .before .row-ordered .ensures) ∙ pairs-ordered _ _ (o .pre)
+
+ends : tie.Need-returns-2 Inv-loop μ-loop
+ends c = all-ends _ _ _ (search needs) (search needs) (c .before .loop .inv .1) ∙ pairs-ordered _ _ (c .before .before .pre)
+
+pub in-order-spec : {M : Type 1} → statement M
+in-order-spec =
+    tie.close
+    (tie.spec Inv-loop μ-loop
+    (λ c. search (needs, scan)) (λ c κs. search needs) stops (λ c. search needs) (λ c. search needs) (λ c. search (needs, scan)) ends)

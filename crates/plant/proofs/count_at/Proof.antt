@@ -1,0 +1,14 @@
+-- `plant::count_at` meets its contract. Assumes nothing.
+use mathlib.Core.Path.{ap, _∙_}
+use Rattle.layout.specs.Header.{countRight}
+use borrow.Author.Needs.{needs}
+use Rattle.plant.proofs.count_at.Statement.{statement}
+use Rattle.plant.proofs.count_at.Tie as tie
+
+returns : tie.Need-returns
+returns c = c .count-right .ensures ∙ ap (countRight _) (c .before .wide .ensures)
+
+pub count-at-spec : {M : Type 1} → statement M
+count-at-spec =
+    tie.close
+    (tie.spec (λ c. search needs) (λ c κs. search needs) (λ c κs. search needs) returns)

@@ -1,0 +1,146 @@
+-- Opening's checks 3 and 7 to 12 on a plant record. Test 20 asks the same of a record, whoever made it.
+use mathlib.Core.Path.{_≡_}
+use Prim.Native.Nat.{ℕ, _+_, _*_, _≤_, _<_}
+use mathlib.Core.Bool.{Bool, true, false, not, _&&_, _||_}
+use mathlib.Core.List.{List, [], _∷_}
+use lib.Dec.{eqb, ltb}
+use lib.ListN.{getD, replicate}
+use Rattle.base.specs.Fill.{fill}
+use Rattle.base.specs.Below.{allBelow, anyBelow, implies}
+use Rattle.base.specs.Bits.{bit, noneFrom}
+use Rattle.base.specs.Chain.{Test, _⇒_, first}
+use Rattle.lattice.specs.Levels.{refusal, Layout}
+use Rattle.lattice.specs.Levels as levels
+use Rattle.lattice.specs.Order.{IsLattice}
+use Rattle.layout.specs.Header.{countRight}
+use Rattle.layout.specs.Layout.{limit}
+use Rattle.plant.specs.declared.Plant.{Plant}
+use Rattle.plant.specs.Plant.{latticeAt, latticeOf, levelsOf, requirementOf, groupOf, levelOf, names, rightsOf, needs, sameLevel, countsOf}
+use Rattle.plant.specs.Right.{rights}
+
+-- The counts are within the record's room.
+pub record Fits (p : Plant) : Type 0 where
+  pub lattices-fit : p .lattices ≤ 8
+  pub requirements-fit : p .requirements ≤ 8
+  pub groups-fit : p .groups ≤ 8
+  pub tanks-fit : p .tanks ≤ 64
+  pub tasks-fit : p .tasks ≤ 16
+  pub skids-fit : p .skids ≤ 8
+
+-- Tests of an entry of a list: its number is below a bound, or is k; no bit of it is at or past a count.
+abbrev pub entryBelow : List ℕ → ℕ → ℕ → Bool
+entryBelow xs bound i = ltb (getD xs i 0) bound
+
+abbrev pub entryIs : List ℕ → ℕ → ℕ → Bool
+entryIs xs k i = eqb (getD xs i 0) k
+
+abbrev pub entryClear : List ℕ → ℕ → ℕ → Bool
+entryClear xs n i = noneFrom n (getD xs i 0)
+
+-- a tank's group is below the count of groups, and its level below the levels of that group's requirement
+abbrev pub tankIn : List ℕ → ℕ → ℕ → ℕ → Bool
+tankIn levels groups group level = ltb group groups && ltb level (getD levels group 0)
+
+-- no right but 0 to 2, and none at all on a group at or past the count
+abbrev pub rightIn : ℕ → ℕ → ℕ → Bool
+rightIn groups g x = noneFrom rights x && (ltb g groups || eqb x 0)
+
+abbrev pub taskRightIn : List ℕ → ℕ → ℕ → ℕ → Bool
+taskRightIn rs groups t g = rightIn groups g (getD rs (t * 8 + g) 0)
+
+abbrev pub taskIn : ℕ → List ℕ → ℕ → ℕ → ℕ → Bool
+taskIn ns rs requirements groups t = noneFrom requirements ns && allBelow (taskRightIn rs groups t) 8
+
+-- two tanks of one group at one level
+abbrev pub twinsIn : List ℕ → List ℕ → ℕ → ℕ → Bool
+twinsIn group level a b = eqb (getD group a 0) (getD group b 0) && eqb (getD level a 0) (getD level b 0)
+
+-- the requirement is named where a right is
+abbrev pub judgedIn : ℕ → ℕ → ℕ → Bool
+judgedIn ns right requirement = implies (not (eqb right 0)) (bit ns requirement)
+
+-- how many levels the requirement of group g has
+abbrev pub levelsFrom : List ℕ → List ℕ → List ℕ → ℕ → ℕ
+levelsFrom sizes lattice requirement g = getD sizes (getD lattice (getD requirement g 0) 0) 0
+
+abbrev pub levelsByGroup : Plant → List ℕ
+levelsByGroup p = fill (levelsFrom (p .sizes) (p .lattice) (p .requirement)) (replicate 8 0) (p .groups)
+
+module _ (p : Plant) where
+  -- 3: a count outside its range
+  unfoldable pub countsIn : Bool
+  countsIn = allBelow (λ k. countRight k (getD (countsOf p) k 0)) 6
+
+  -- 7, 8, 9: some lattice within the count, used or not, is refused with this number. Each number is asked of all lattices before the
+  -- next, so 8 of one lattice decides before 9 of another.
+  unfoldable pub latticeFails : ℕ → Bool
+  latticeFails k = anyBelow (λ l. eqb (refusal (latticeAt p l)) k) (p .lattices)
+
+  -- 10: every number is below its count, every level below the n of its lattice, every bit below its count. A tank is judged in the
+  -- lattice of its group's requirement.
+  abbrev pub tankRight : ℕ → Bool
+  tankRight o = ltb (groupOf p o) (p .groups) && ltb (levelOf p o) (levelsOf p (requirementOf p (groupOf p o)))
+
+  abbrev pub taskRight : ℕ → Bool
+  taskRight t = taskIn (getD (p .names) t 0) (p .rights) (p .requirements) (p .groups) t
+
+  unfoldable pub numbersRight : Bool
+  numbersRight =
+      allBelow (entryBelow (p .lattice) (p .lattices)) (p .requirements)
+      && (allBelow (entryBelow (p .requirement) (p .requirements)) (p .groups)
+      && (allBelow tankRight (p .tanks)
+      && (allBelow taskRight (p .tasks)
+      && allBelow (entryClear (p .may) (p .tasks)) (p .skids))))
+
+  -- 11: no two tanks of one group at one level. In another group the same level is right.
+  abbrev pub twins : ℕ → ℕ → Bool
+  twins a b = eqb (groupOf p a) (groupOf p b) && sameLevel p (groupOf p a) a b
+
+  unfoldable pub noTwins : Bool
+  noTwins = allBelow (λ a. allBelow (λ b. not (twins a b)) a) (p .tanks)
+
+  -- 12: a task names the requirement of each group on which it names a right. The article ties the two nowhere; without it a skid could
+  -- start on a group for which no level is asked.
+  abbrev pub judged : ℕ → ℕ → Bool
+  judged t g = implies (needs p t g) (names p t (requirementOf p g))
+
+  unfoldable pub allJudged : Bool
+  allJudged = allBelow (λ t. allBelow (judged t) (p .groups)) (p .tasks)
+
+-- Checks 7 to 12 in their order. Two of them also have bytes of the file that are always zero, which a record does not keep: 7 those of
+-- the lattice records, 10 those of the others.
+abbrev pub recordChecks : Bool → Bool → Plant → List Test
+recordChecks z7 z10 p =
+    (not z7 || latticeFails p 7) ⇒ 7
+    ∷ latticeFails p 8 ⇒ 8
+    ∷ latticeFails p 9 ⇒ 9
+    ∷ (not z10 || not (numbersRight p)) ⇒ 10
+    ∷ not (noTwins p) ⇒ 11
+    ∷ not (allJudged p) ⇒ 12
+    ∷ []
+
+-- the number that refuses a plant record, or 0
+unfoldable pub plantRefusal : Bool → Bool → Plant → ℕ
+plantRefusal z7 z10 p = first (not (countsIn p) ⇒ 3 ∷ recordChecks z7 z10 p)
+
+-- The same in words, one field for each check. proofs/Sound has that a record is not refused exactly where they hold.
+pub record Counts (p : Plant) : Type 0 where
+  pub in-range : (k : ℕ) → k < 6 → (1 ≤ getD (countsOf p) k 0) × (getD (countsOf p) k 0 ≤ limit k)
+
+pub record Numbers (p : Plant) : Type 0 where
+  pub lattice-in : (d : ℕ) → d < p .requirements → latticeOf p d < p .lattices
+  pub requirement-in : (g : ℕ) → g < p .groups → requirementOf p g < p .requirements
+  pub group-in : (o : ℕ) → o < p .tanks → groupOf p o < p .groups
+  pub level-in : (o : ℕ) → o < p .tanks → levelOf p o < levelsOf p (requirementOf p (groupOf p o))
+  pub names-in : (t d : ℕ) → t < p .tasks → names p t d ≡ true → d < p .requirements
+  pub rights-known : (t g r : ℕ) → t < p .tasks → g < 8 → bit (rightsOf p t g) r ≡ true → r < rights
+  pub rights-in : (t g : ℕ) → t < p .tasks → g < 8 → p .groups ≤ g → rightsOf p t g ≡ 0
+  pub may-in : (s t : ℕ) → s < p .skids → bit (getD (p .may) s 0) t ≡ true → t < p .tasks
+
+pub record Sound (p : Plant) : Type 0 where
+  pub counts : Counts p
+  pub layouts : (l : ℕ) → l < p .lattices → Layout (latticeAt p l)
+  pub lattices : (l : ℕ) → l < p .lattices → IsLattice (latticeAt p l .n) (levels.under (latticeAt p l))
+  pub numbers : Numbers p
+  pub no-twins : (a b : ℕ) → a < p .tanks → b < p .tanks → groupOf p a ≡ groupOf p b → levelOf p a ≡ levelOf p b → a ≡ b
+  pub all-judged : (t g r : ℕ) → t < p .tasks → g < p .groups → bit (rightsOf p t g) r ≡ true → names p t (requirementOf p g) ≡ true

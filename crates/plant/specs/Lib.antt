@@ -1,0 +1,3 @@
+pub mod Plant
+pub mod Right
+pub mod Checks
