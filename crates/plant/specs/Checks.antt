@@ -2,7 +2,7 @@
 use mathlib.Core.Path.{_≡_}
 use Prim.Native.Nat.{ℕ, _+_, _*_, _≤_, _<_}
 use mathlib.Core.Bool.{Bool, true, false, not, _&&_, _||_}
-use mathlib.Core.List.{List, [], _∷_}
+use mathlib.Core.List.{List, [], _∷_, _++_}
 use lib.Dec.{eqb, ltb}
 use lib.ListN.{getD, replicate}
 use Rattle.base.specs.Fill.{fill}
@@ -15,7 +15,7 @@ use Rattle.lattice.specs.Order.{IsLattice}
 use Rattle.layout.specs.Header.{countRight}
 use Rattle.layout.specs.Layout.{limit}
 use Rattle.plant.specs.declared.Plant.{Plant}
-use Rattle.plant.specs.Plant.{latticeAt, latticeOf, levelsOf, requirementOf, groupOf, levelOf, names, rightsOf, needs, sameLevel, countsOf}
+use Rattle.plant.specs.Plant.{latticeFrom, latticeAt, latticeOf, levelsOf, requirementOf, groupOf, levelOf, names, rightsOf, needs, sameLevel, countsOf}
 use Rattle.plant.specs.Right.{rights}
 
 -- The counts are within the record's room.
@@ -66,6 +66,13 @@ levelsFrom sizes lattice requirement g = getD sizes (getD lattice (getD requirem
 abbrev pub levelsByGroup : Plant → List ℕ
 levelsByGroup p = fill (levelsFrom (p .sizes) (p .lattice) (p .requirement)) (replicate 8 0) (p .groups)
 
+-- the number that refuses each lattice
+abbrev pub refusalsOf : List ℕ → List ℕ → ℕ → List ℕ
+refusalsOf sizes sets n = fill (λ l. refusal (latticeFrom sizes sets l)) (replicate 8 0) n
+
+abbrev pub firstNumber : List ℕ → ℕ → ℕ
+firstNumber numbers n = first (anyBelow (entryIs numbers 7) n ⇒ 7 ∷ anyBelow (entryIs numbers 8) n ⇒ 8 ∷ anyBelow (entryIs numbers 9) n ⇒ 9 ∷ [])
+
 module _ (p : Plant) where
   -- 3: a count outside its range
   unfoldable pub countsIn : Bool
@@ -109,15 +116,20 @@ module _ (p : Plant) where
 
 -- Checks 7 to 12 in their order. Two of them also have bytes of the file that are always zero, which a record does not keep: 7 those of
 -- the lattice records, 10 those of the others.
+abbrev pub latticeChecks : Bool → Plant → List Test
+latticeChecks z7 p = (not z7 || latticeFails p 7) ⇒ 7 ∷ latticeFails p 8 ⇒ 8 ∷ latticeFails p 9 ⇒ 9 ∷ []
+
+abbrev pub itemChecks : Bool → Plant → List Test
+itemChecks z10 p = (not z10 || not (numbersRight p)) ⇒ 10 ∷ not (noTwins p) ⇒ 11 ∷ not (allJudged p) ⇒ 12 ∷ []
+
 abbrev pub recordChecks : Bool → Bool → Plant → List Test
-recordChecks z7 z10 p =
-    (not z7 || latticeFails p 7) ⇒ 7
-    ∷ latticeFails p 8 ⇒ 8
-    ∷ latticeFails p 9 ⇒ 9
-    ∷ (not z10 || not (numbersRight p)) ⇒ 10
-    ∷ not (noTwins p) ⇒ 11
-    ∷ not (allJudged p) ⇒ 12
-    ∷ []
+recordChecks z7 z10 p = latticeChecks z7 p ++ itemChecks z10 p
+
+unfoldable pub latticesRefusal : Plant → ℕ
+latticesRefusal p = first (latticeChecks true p)
+
+unfoldable pub itemsRefusal : Plant → ℕ
+itemsRefusal p = first (itemChecks true p)
 
 -- the number that refuses a plant record, or 0
 unfoldable pub plantRefusal : Bool → Bool → Plant → ℕ

@@ -8,9 +8,10 @@ ghost use Rattle.base.specs.Bits.{noneFrom};
 ghost use Rattle.base.specs.Fill.{fill};
 ghost use Rattle.layout.specs.Header.{countRight};
 ghost use Rattle.plant.specs.Plant.{latticeFrom, groupOf, levelOf, noPlant};
-ghost use Rattle.plant.specs.Checks.{Fits, entryIs, entryBelow, entryClear, countsIn, tankIn, tankRight, rightIn, taskRightIn, taskIn, taskRight, numbersRight, twinsIn, noTwins, judgedIn, allJudged, levelsFrom, levelsByGroup};
+ghost use Rattle.plant.specs.Checks.{Fits, entryIs, entryBelow, entryClear, countsIn, tankIn, tankRight, rightIn, taskRightIn, taskIn, taskRight, numbersRight, twinsIn, noTwins, judgedIn, allJudged, levelsFrom, levelsByGroup, refusalsOf, firstNumber, latticesRefusal, itemsRefusal, plantRefusal};
 ghost use Rattle.plant.specs.Right.{validRight, maskOf};
 use lattice::Lattice;
+use lattice::refusal_of;
 use layout::count_right;
 
 // Everything that opening reads from the file, in flat arrays, since only arrays of numbers can be lent. Entries past the counts are not
@@ -112,6 +113,17 @@ fn lattice_at<'a>(sizes: &'a [u8; 8], sets: &'a [u16; 128], l: usize) -> Lattice
         n: sizes[l],
         sets: row,
     }
+}
+
+fn refusals<'a>(sizes: &'a [u8; 8], sets: &'a [u16; 128], n: usize) -> [u8; 8]
+    requires { ⌜ n ≤ 8 ⌝ }
+    ensures { λ r. ⌜ r ≡ refusalsOf (now (sizes .entry)) (now (sets .entry)) n ⌝ }
+{
+    let mut numbers = [0u8; 8];
+    for l in 0..n {
+        numbers[l] = refusal_of(lattice_at(sizes, sets, l));
+    }
+    numbers
 }
 
 fn any_is(numbers: &[u8; 8], n: usize, k: u8) -> bool
@@ -330,7 +342,13 @@ fn is_judged(names: u8, right: u8, requirement: u8) -> bool
     (names >> requirement) % 2 == 1
 }
 
-fn task_judged<'a>(names: u8, rights: &'a [u8; 128], requirement: &'a [u8; 8], groups: usize, t: usize) -> bool
+fn task_judged<'a>(
+    names: u8,
+    rights: &'a [u8; 128],
+    requirement: &'a [u8; 8],
+    groups: usize,
+    t: usize,
+) -> bool
     requires { ⌜ (groups ≤ 8) × (t < 16) ⌝ }
     requires { ⌜ allBelow (entryBelow (now requirement) 8) groups ≡ true ⌝ }
     ensures { λ r. ⌜ r ≡ allBelow (λ g. judgedIn names (getD (now (rights .entry)) (t * 8 + g) 0) (getD (now (requirement .entry)) g 0)) groups ⌝ }
@@ -356,4 +374,69 @@ fn all_judged(p: Plant) -> bool
         }
     }
     true
+}
+
+// 7, 8 or 9, whichever first stands among the numbers, or 0.
+fn first_number(numbers: &[u8; 8], n: usize) -> u8
+    requires { ⌜ n ≤ 8 ⌝ }
+    ensures { λ r. ⌜ r ≡ firstNumber (now (numbers .entry)) n ⌝ }
+{
+    if any_is(numbers, n, 7) {
+        return 7;
+    }
+    if any_is(numbers, n, 8) {
+        return 8;
+    }
+    if any_is(numbers, n, 9) {
+        return 9;
+    }
+    0
+}
+
+// Each lattice is tested once, and then each number asked of all of them.
+fn lattices_refusal(p: Plant) -> u8
+    requires { ⌜ Fits p ⌝ }
+    ensures { λ r. ⌜ r ≡ latticesRefusal p ⌝ }
+{
+    let n = p.lattices as usize;
+    let numbers = refusals(&p.sizes, &p.sets, n);
+    first_number(&numbers, n)
+}
+
+// 10, 11 or 12, or 0.
+fn items_refusal(p: Plant) -> u8
+    requires { ⌜ Fits p ⌝ }
+    ensures { λ r. ⌜ r ≡ itemsRefusal p ⌝ }
+{
+    if !numbers_right(p) {
+        return 10;
+    }
+    if !no_twins(p) {
+        return 11;
+    }
+    if !all_judged(p) {
+        return 12;
+    }
+    0
+}
+
+// The number that refuses a plant record, or 0. The two tests say whether the bytes of the file that are always zero are: those of the
+// lattice records, and those of the others. A record has no such bytes.
+pub fn refusal(p: Plant, zeros7: bool, zeros10: bool) -> u8
+    ensures { λ r. ⌜ r ≡ plantRefusal zeros7 zeros10 p ⌝ }
+{
+    if !counts_in(p) {
+        return 3;
+    }
+    if !zeros7 {
+        return 7;
+    }
+    let number = lattices_refusal(p);
+    if number != 0 {
+        return number;
+    }
+    if !zeros10 {
+        return 10;
+    }
+    items_refusal(p)
 }

@@ -3,7 +3,7 @@ use mathlib.Core.Path.{_≡_, sym, ap, subst, _∙_}
 use mathlib.Core.List.{List}
 use Prim.Native.Nat.{ℕ}
 use borrow.Author.Needs.{needs}
-use Rattle.base.proofs.Chain.{both-on, both-off}
+use Rattle.base.proofs.Both.{both-on, both-off}
 use Rattle.lattice.specs.Levels.{joined, complete}
 use Rattle.lattice.specs.Sets.{Sound, underIn}
 use Rattle.lattice.proofs.Meets.{turned-sound, turned-joined}

@@ -15,7 +15,9 @@ returns-2 c = search guards
 
 tanks-right-requires : tie.Need-tanks-right-requires
 unfolding numbersRight
-tanks-right-requires c κs = (search needs, (search held, search held))
+tanks-right-requires c κs =
+    let e = c .before .before .before .before in
+    (search needs, (held _ (e .before .all-below .ensures) (e .if1 .left), held _ (c .before .all-below2 .ensures) (c .if2 .left)))
 
 returns-3 : tie.Need-returns-3
 unfolding numbersRight

@@ -8,7 +8,7 @@ use Rattle.plant.proofs.tanks_right.Tie as tie
 returns : tie.Need-returns
 returns c =
     let s = c .before .before .before in
-    c .tanks-within .ensures ∙ rw (c .before .before .levels-by-group .ensures) (tanks-same (s .args .t1) (s .pre .0 .groups-fit))
+    c .tanks-within .ensures ∙ rw (c .before .before .levels-by-group .ensures) (tanks-same (s .args .p) (s .pre .0 .groups-fit))
 
 pub tanks-right-spec : {M : Type 1} → statement M
 tanks-right-spec =

@@ -1,0 +1,34 @@
+-- `plant::items_refusal` meets its contract: each test is its check, in their order. Assumes nothing.
+use Rattle.base.proofs.Chain.{checks}
+use Rattle.base.proofs.Both.{held}
+use Rattle.plant.specs.Checks.{itemsRefusal}
+use Rattle.plant.proofs.Sequence.{requirements-fit-set}
+use borrow.Author.Needs.{needs}
+use Rattle.plant.proofs.items_refusal.Statement.{statement}
+use Rattle.plant.proofs.items_refusal.Tie as tie
+
+returns : tie.Need-returns
+unfolding itemsRefusal
+returns c = search checks depth 8
+
+returns-2 : tie.Need-returns-2
+unfolding itemsRefusal
+returns-2 c = search checks depth 8
+
+all-judged-requires : tie.Need-all-judged-requires
+unfolding itemsRefusal
+all-judged-requires c κs = (search needs, requirements-fit-set _ (search needs) (held _ (c .before .before .before .numbers-right .ensures) (c .before .before .if1 .left)))
+
+returns-3 : tie.Need-returns-3
+unfolding itemsRefusal
+returns-3 c = search checks depth 8
+
+returns-4 : tie.Need-returns-4
+unfolding itemsRefusal
+returns-4 c = search checks depth 8
+
+pub items-refusal-spec : {M : Type 1} → statement M
+unfolding itemsRefusal
+items-refusal-spec =
+    tie.close
+    (tie.spec (λ c κs. search needs) returns (λ c κs. search needs) returns-2 all-judged-requires returns-3 returns-4)
