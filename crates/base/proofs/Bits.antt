@@ -4,6 +4,7 @@ use mathlib.Core.Bool.{Bool, true, false, _&&_}
 use Prim.Native.Nat.{ℕ, zero, suc, _+_, _*_, _/_, _%_, _^_, _-_, _≤_, _<_, min}
 use native.Mathlib.Nat.{mul-add-mod-self-right, div-add-mod', div-one, mod-lt, pow-suc, div-div-eq-div-mul, mul-comm, zero-lt-suc, div-lt-iff-lt-mul, div-eq-of-lt, zero-div, lt-of-le-of-lt, div-le-self}
 use native.Mathlib.Omega.{arith}
+use native.Mathlib.Decide.{decLt}
 use lib.Dec.{eqb}
 use lib.Bits.{bitAnd, and-shr, and-mod, and-step, and-lt}
 use lib.Pow.{shr-shr, pow-pos, pow-mono}
@@ -29,7 +30,7 @@ low-same x y e =
 low-bit : (x : ℕ) → bit x 0 ≡ eqb (x % 2) 1
 low-bit x = ap (λ (m : ℕ). eqb (m % 2) 1) (div-one x)
 
-zero-bit : (i : ℕ) → bit 0 i ≡ false
+pub zero-bit : (i : ℕ) → bit 0 i ≡ false
 zero-bit i = ap (λ (m : ℕ). eqb (m % 2) 1) (zero-div (2 ^ i))
 
 half-lt-pow : {a : ℕ} (k : ℕ) → a < 2 ^ suc k → a / 2 < 2 ^ k
@@ -78,3 +79,18 @@ pub none-yes : (n x : ℕ) → ((i : ℕ) → n ≤ i → bit x i ≡ false) →
 unfolding noneFrom
 none-yes n x h =
     eq-eqb _ _ (bits-same x (x / 2 ^ n) 0 (lt-of-le-of-lt (div-le-self x (2 ^ n)) (self-lt-pow x)) (pow-pos x) (λ i l. bit-shift x n i ∙ h (n + i) (omega arith) ∙ sym (zero-bit i)))
+
+-- a set bit lies below n, from the test; and the test, from each set bit
+pub clear-bit : (n x i : ℕ) → noneFrom n x ≡ true → bit x i ≡ true → i < n
+clear-bit n x i e b = elim (decLt i n) [
+  | yes l ↦ l
+  | no l ↦ absurd (true-false (sym b ∙ none-from n x e i (omega arith)))
+]
+
+pub clear-yes : (n x : ℕ) → ((i : ℕ) → bit x i ≡ true → i < n) → noneFrom n x ≡ true
+clear-yes n x h = none-yes n x (λ i l. split (bit x i) (λ b. absurd (let m : i < n = h i b in omega arith)) (λ b. b))
+
+-- a number without bits is 0
+pub no-bits : (x : ℕ) → ((i : ℕ) → bit x i ≡ false) → x ≡ 0
+unfolding noneFrom
+no-bits x h = sym (div-one x) ∙ eqb-true _ _ (none-yes 0 x (λ i l. h i))

@@ -1,2 +1,3 @@
 pub mod Links
 pub mod Sequence
+pub mod Sound

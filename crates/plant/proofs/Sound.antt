@@ -1,0 +1,118 @@
+-- A plant record passes the checks exactly where it is sound: each computed test is the law in words, both ways. Assumes nothing.
+use mathlib.Core.Path.{_≡_, refl, sym, ap, _∙_}
+use mathlib.Core.Logic.{_↔_}
+use Prim.Native.Nat.{ℕ, _+_, _*_, _≤_, _<_}
+use native.Mathlib.Omega.{arith}
+use native.Mathlib.Decide.{decLt}
+use mathlib.Core.Bool.{Bool, true, false, not, _&&_, _||_}
+use lib.Dec.{eqb, leb, ltb}
+use lib.ListN.{getD}
+use borrow.Author.Tests.{ltb-true, ltb-false, lt-ltb, le-leb, eqb-true, eqb-false, eq-eqb, ne-eqb, not-true, not-false, le-ltb}
+use Rattle.base.specs.Below.{allBelow, anyBelow, implies}
+use Rattle.base.specs.Bits.{bit, noneFrom}
+use Rattle.base.proofs.Logic.{split, true-false, and-true, and-both, or-cases, or-left, or-right, implies-true, implies-intro}
+use Rattle.base.proofs.Below.{all-at, all-yes, any-no, any-none}
+use Rattle.base.proofs.Bits.{clear-bit, clear-yes, no-bits, zero-bit}
+use Rattle.lattice.specs.Levels.{refusal, Layout}
+use Rattle.lattice.specs.Levels as levels
+use Rattle.lattice.specs.Order.{IsLattice}
+use Rattle.lattice.proofs.Verdict.{verdict}
+use Rattle.layout.specs.Header.{countRight}
+use Rattle.plant.specs.declared.Plant.{Plant}
+use Rattle.plant.specs.Plant.{latticeAt, countsOf, requirementOf, groupOf, levelOf, levelsOf, latticeOf, names, rightsOf, needs}
+use Rattle.plant.specs.Right.{rights}
+use Rattle.plant.specs.Checks.{entryBelow, entryClear, countsIn, latticeFails, tankRight, rightIn, taskRightIn, taskRight, numbersRight, twins, noTwins, judged, allJudged, Counts, Numbers, Sound}
+use Rattle.plant.proofs.Sequence.{count-in}
+use Rattle.plant.proofs.Links.{entry-at}
+
+-- the tests of the record
+pub record Passed (p : Plant) : Type 0 where
+  pub counts-in : countsIn p ≡ true
+  pub no-7 : latticeFails p 7 ≡ false
+  pub no-8 : latticeFails p 8 ≡ false
+  pub no-9 : latticeFails p 9 ≡ false
+  pub numbers-right : numbersRight p ≡ true
+  pub no-twins : noTwins p ≡ true
+  pub all-judged : allJudged p ≡ true
+
+module _ (p : Plant) where
+  counts-back : Counts p → countsIn p ≡ true
+  unfolding countsIn countRight
+  counts-back c = all-yes 6 _ (λ k l. and-both _ _ (le-leb _ _ (c .in-range k l .0)) (le-leb _ _ (c .in-range k l .1)))
+
+  -- lattices
+  not-number : (k l : ℕ) → latticeFails p k ≡ false → l < p .lattices → refusal (latticeAt p l) ≡ k → ⊥
+  unfolding latticeFails
+  not-number k l e h q = true-false (sym (eq-eqb _ _ q) ∙ any-no (p .lattices) (λ (i : ℕ). eqb (refusal (latticeAt p i)) k) e l h)
+
+  -- numbers
+  record Tests : Type 0 where
+    lattice-test : allBelow (entryBelow (p .lattice) (p .lattices)) (p .requirements) ≡ true
+    requirement-test : allBelow (entryBelow (p .requirement) (p .requirements)) (p .groups) ≡ true
+    tank-test : allBelow (tankRight p) (p .tanks) ≡ true
+    task-test : allBelow (taskRight p) (p .tasks) ≡ true
+    skid-test : allBelow (entryClear (p .may) (p .tasks)) (p .skids) ≡ true
+
+  tests : numbersRight p ≡ true → Tests
+  unfolding numbersRight
+  tests e =
+      let a = and-true (allBelow (entryBelow (p .lattice) (p .lattices)) (p .requirements)) _ e in
+      let b = and-true (allBelow (entryBelow (p .requirement) (p .requirements)) (p .groups)) _ (a .1) in
+      let c = and-true (allBelow (tankRight p) (p .tanks)) _ (b .1) in
+      let d = and-true (allBelow (taskRight p) (p .tasks)) (allBelow (entryClear (p .may) (p .tasks)) (p .skids)) (c .1) in
+      record { lattice-test = a .0; requirement-test = b .0; tank-test = c .0; task-test = d .0; skid-test = d .1 }
+
+  tank-at : Tests → (o : ℕ) → o < p .tanks → (groupOf p o < p .groups) × (levelOf p o < levelsOf p (requirementOf p (groupOf p o)))
+  tank-at t o l =
+      let q = and-true (ltb (groupOf p o) (p .groups)) (ltb (levelOf p o) (levelsOf p (requirementOf p (groupOf p o)))) (all-at (p .tanks) (tankRight p) (t .tank-test) o l) in
+      (ltb-true _ _ (q .0), ltb-true _ _ (q .1))
+
+  task-at : Tests → (t : ℕ) → t < p .tasks → (noneFrom (p .requirements) (getD (p .names) t 0) ≡ true) × (allBelow (taskRightIn (p .rights) (p .groups) t) 8 ≡ true)
+  task-at s t l = and-true (noneFrom (p .requirements) (getD (p .names) t 0)) _ (all-at (p .tasks) (taskRight p) (s .task-test) t l)
+
+  right-at : Tests → (t g : ℕ) → t < p .tasks → g < 8 → (noneFrom rights (rightsOf p t g) ≡ true) × (ltb g (p .groups) || eqb (rightsOf p t g) 0 ≡ true)
+  right-at s t g l m = and-true (noneFrom rights (rightsOf p t g)) _ (all-at 8 (taskRightIn (p .rights) (p .groups) t) (task-at s t l .1) g m)
+
+  numbers-words : numbersRight p ≡ true → Numbers p
+  numbers-words e = let s = tests e in record {
+    lattice-in = λ d l. entry-at (p .lattice) (p .lattices) (p .requirements) d (s .lattice-test) l;
+    requirement-in = λ g l. entry-at (p .requirement) (p .requirements) (p .groups) g (s .requirement-test) l;
+    group-in = λ o l. tank-at s o l .0;
+    level-in = λ o l. tank-at s o l .1;
+    names-in = λ t d l b. clear-bit (p .requirements) (getD (p .names) t 0) d (task-at s t l .0) b;
+    rights-known = λ t g r l m b. clear-bit rights (rightsOf p t g) r (right-at s t g l m .0) b;
+    rights-in = λ t g l m n. eqb-true _ _ (or-cases (ltb g (p .groups)) (eqb (rightsOf p t g) 0) (right-at s t g l m .1) (le-ltb _ _ n));
+    may-in = λ x t l b. clear-bit (p .tasks) (getD (p .may) x 0) t (all-at (p .skids) (entryClear (p .may) (p .tasks)) (s .skid-test) x l) b;
+  }
+
+  right-back : Numbers p → (t g : ℕ) → t < p .tasks → g < 8 → taskRightIn (p .rights) (p .groups) t g ≡ true
+  right-back n t g l m =
+      and-both _ _ (clear-yes rights (rightsOf p t g) (λ r b. n .rights-known t g r l m b))
+      (elim (decLt g (p .groups)) [
+        | yes y ↦ or-left (ltb g (p .groups)) (eqb (rightsOf p t g) 0) (lt-ltb _ _ y)
+        | no y ↦ or-right (ltb g (p .groups)) (eqb (rightsOf p t g) 0) (eq-eqb _ _ (n .rights-in t g l m (omega arith)))
+      ])
+
+  numbers-back : Numbers p → numbersRight p ≡ true
+  unfolding numbersRight
+  numbers-back n =
+      and-both _ _ (all-yes (p .requirements) _ (λ d l. lt-ltb _ _ (n .lattice-in d l)))
+      (and-both _ _ (all-yes (p .groups) _ (λ g l. lt-ltb _ _ (n .requirement-in g l)))
+      (and-both _ _ (all-yes (p .tanks) _ (λ o l. and-both _ _ (lt-ltb _ _ (n .group-in o l)) (lt-ltb _ _ (n .level-in o l))))
+      (and-both _ _ (all-yes (p .tasks) _ (λ t l. and-both _ _ (clear-yes (p .requirements) (getD (p .names) t 0) (λ d b. n .names-in t d l b)) (all-yes 8 _ (λ g m. right-back n t g l m))))
+      (all-yes (p .skids) _ (λ x l. clear-yes (p .tasks) (getD (p .may) x 0) (λ t b. n .may-in x t l b))))))
+
+  -- tanks
+  twin-at : noTwins p ≡ true → (a b : ℕ) → a < p .tanks → b < a → groupOf p a ≡ groupOf p b → levelOf p a ≡ levelOf p b → ⊥
+  unfolding noTwins
+  twin-at e a b l m g v =
+      true-false (sym (and-both _ _ (eq-eqb _ _ g) (eq-eqb _ _ v)) ∙ not-true (twins p a b) (all-at a (λ (x : ℕ). not (twins p a x)) (all-at (p .tanks) (λ (y : ℕ). allBelow (λ (x : ℕ). not (twins p y x)) y) e a l) b m))
+
+  twins-words : noTwins p ≡ true → (a b : ℕ) → a < p .tanks → b < p .tanks → groupOf p a ≡ groupOf p b → levelOf p a ≡ levelOf p b → a ≡ b
+  twins-words e a b l m g v = elim (decLt b a) [
+    | yes x ↦ absurd (twin-at e a b l x g v)
+    | no x ↦ elim (decLt a b) [
+      | yes y ↦ absurd (twin-at e b a m y (sym g) (sym v))
+      | no y ↦ omega arith
+    ]
+  ]
