@@ -19,16 +19,12 @@ use Rattle.base.proofs.Last.{last-first, first-same}
 use Rattle.base.proofs.Shared.{Within, shared, shared-at, zero-bits}
 use Rattle.lattice.specs.Order.{Order, Join}
 use Rattle.lattice.specs.Levels.{Layout, ordered, isJoin, joinOf}
-use Rattle.lattice.specs.Sets.{withSets, underIn, Sound, pairOrdered, rowOrdered, isSet}
+use Rattle.lattice.specs.Sets.{withSets, underIn, Sound, strictly, pairOrdered, rowOrdered, isSet}
 use Rattle.lattice.proofs.Laws.{order-iff, join-says, join-holds}
 
 module _ (n : ℕ) (s : List ℕ) where
   abbrev set : ℕ → ℕ
   set i = getD s i 0
-
-  -- where i is under another level j: j is not under i, and the set of j lies in that of i
-  abbrev strictly : ℕ → ℕ → Bool
-  strictly i j = not (underIn s j i) && eqb (bitAnd (set i) (set j)) (set j)
 
   -- no bit of a level's set from n on
   within : Layout (withSets n s) → (i : ℕ) → i < n → Within n (set i)
@@ -40,8 +36,8 @@ module _ (n : ℕ) (s : List ℕ) where
 
     pair-other : eqb i j ≡ false → underIn s i j ≡ true → (not (underIn s j i) ≡ true) × (eqb (bitAnd (set i) (set j)) (set j) ≡ true)
     pair-other z u =
-        let f : implies (underIn s i j) (strictly i j) ≡ true = rw z at e in
-        and-true (not (underIn s j i)) (eqb (bitAnd (set i) (set j)) (set j)) (implies-true (underIn s i j) (strictly i j) f u)
+        let f : implies (underIn s i j) (strictly s i j) ≡ true = rw z at e in
+        and-true (not (underIn s j i)) (eqb (bitAnd (set i) (set j)) (set j)) (implies-true (underIn s i j) (strictly s i j) f u)
 
   pairs-order : ((i : ℕ) → i < n → (j : ℕ) → j < n → pairOrdered s i j ≡ true) → Order n (underIn s)
   pairs-order h = record {
@@ -57,14 +53,14 @@ module _ (n : ℕ) (s : List ℕ) where
   }
 
   module _ (y : Layout (withSets n s)) (o : Order n (underIn s)) (i : ℕ) (p : i < n) (j : ℕ) (q : j < n) where
-    order-strictly : eqb i j ≡ false → underIn s i j ≡ true → strictly i j ≡ true
+    order-strictly : eqb i j ≡ false → underIn s i j ≡ true → strictly s i j ≡ true
     order-strictly z u = and-both _ _
         (not-is-true (underIn s j i) (split (underIn s j i) (λ v. absurd (eqb-false i j z (o .antisymmetric i j p q u v))) (λ v. v)))
         (eq-eqb _ _ (sym (shared n (set j) (set i) (set j) (within y j q) (within y i p) (within y j q)
         (λ k r. same-test (underIn s j k) (underIn s i k && underIn s j k) (λ v. and-both _ _ (o .transitive i j k p q r u v) v) (λ w. and-true (underIn s i k) (underIn s j k) w .1)))))
 
     order-pair : pairOrdered s i j ≡ true
-    order-pair = split (eqb i j) (λ z. rw z (o .reflexive i p)) (λ z. rw z (implies-intro (underIn s i j) (strictly i j) (order-strictly z)))
+    order-pair = split (eqb i j) (λ z. rw z (o .reflexive i p)) (λ z. rw z (implies-intro (underIn s i j) (strictly s i j) (order-strictly z)))
 
   -- 8 by whole sets: each pair passes where the levels are in order, and only there.
   pub pairs-ordered : Layout (withSets n s) → allBelow (rowOrdered s n) n ≡ ordered n (underIn s)

@@ -24,10 +24,13 @@ pub record Sound (n : ℕ) (s : List ℕ) : Type 0 where
   pub clean : Layout (withSets n s)
   pub order : Order n (underIn s)
 
--- Levels i and j are in order: a level is under itself; and where i is under another level j, j is not under i, and the set of j lies in that of i.
+-- Level i is under another level j: then j is not under i, and the set of j lies in that of i.
+abbrev pub strictly : List ℕ → ℕ → ℕ → Bool
+strictly s i j = not (underIn s j i) && eqb (bitAnd (getD s i 0) (getD s j 0)) (getD s j 0)
+
+-- Levels i and j are in order. A level is under itself.
 abbrev pub pairOrdered : List ℕ → ℕ → ℕ → Bool
-pairOrdered s i j =
-    cond (eqb i j) (underIn s i i) (implies (underIn s i j) (not (underIn s j i) && eqb (bitAnd (getD s i 0) (getD s j 0)) (getD s j 0)))
+pairOrdered s i j = cond (eqb i j) (underIn s i i) (implies (underIn s i j) (strictly s i j))
 
 -- level i is in order with each level
 abbrev pub rowOrdered : List ℕ → ℕ → ℕ → Bool

@@ -231,7 +231,9 @@ fn is_complete(s: &[u16; 16], n: usize) -> bool
     ensures { λ r. ⌜ r ≡ complete (withSets n (now (s .entry))) ⌝ }
 {
     let t = turned(s);
-    full(joins(s, n), n) && full(joins(&t, n), n)
+    let least_above = joins(s, n);
+    let greatest_under = joins(&t, n);
+    full(least_above, n) && full(greatest_under, n)
 }
 
 // The number that refuses a lattice record, or 0.
