@@ -1,23 +1,23 @@
 -- What whole sets say of single levels: two sets that share their bits, and the join of two levels as the level whose set is what theirs share.
 -- Assumes nothing.
-use mathlib.Core.Path.{_≡_, refl, sym, ap, subst, _∙_}
+use mathlib.Core.Path.{_≡_, refl, sym, ap, _∙_}
 use Prim.Native.Nat.{ℕ, _≤_, _<_}
 use native.Mathlib.Omega.{arith}
 use native.Mathlib.Decide.{decLt}
-use mathlib.Core.Bool.{Bool, true, false, cond, not, _&&_}
+use mathlib.Core.Bool.{true, false, cond, not, _&&_}
 use mathlib.Core.List.{List}
 use lib.Bits.{bitAnd}
 use lib.Dec.{eqb, ltb}
 use lib.ListN.{getD}
 use borrow.Author.Tests.{eqb-true, eqb-false, eq-eqb, not-true}
-use Rattle.base.specs.Below.{allBelow, firstBelow, implies}
+use Rattle.base.specs.Below.{allBelow, implies}
 use Rattle.base.specs.Bits.{bit}
 use Rattle.base.specs.Last.{lastBelow}
 use Rattle.base.proofs.Logic.{split, true-false, same-test, and-true, and-both, implies-true, implies-intro, not-is-true}
 use Rattle.base.proofs.Below.{all-at, all-yes}
 use Rattle.base.proofs.Last.{last-first, first-same}
 use Rattle.base.proofs.Shared.{Within, shared, shared-at, zero-bits}
-use Rattle.lattice.specs.Order.{Order, Join}
+use Rattle.lattice.specs.Order.{Order}
 use Rattle.lattice.specs.Levels.{Layout, ordered, isJoin, joinOf}
 use Rattle.lattice.specs.Sets.{withSets, underIn, Sound, strictly, pairOrdered, rowOrdered, isSet}
 use Rattle.lattice.proofs.Laws.{order-iff, join-says, join-holds}
@@ -69,7 +69,7 @@ module _ (n : ℕ) (s : List ℕ) where
       (λ e. let o = order-iff n (underIn s) .0 e in all-yes n (rowOrdered s n) (λ i p. all-yes n (pairOrdered s i) (order-pair y o i p)))
 
   module _ (w : Sound n s) (i j : ℕ) (p : i < n) (q : j < n) where
-    -- THE LAW: level k is the join of i and j where its set is what theirs share, and only there.
+    -- The law of joins: level k is the join of i and j where its set is what theirs share, and only there.
     pub join-set : (k : ℕ) → k < n → isSet s (bitAnd (set i) (set j)) k ≡ isJoin n (underIn s) i j k
     join-set k r = same-test _ _
         (λ e.

@@ -16,6 +16,7 @@ use Rattle.lattice.specs.Levels.{under, Layout}
 abbrev pub withSets : ℕ → List ℕ → Lattice
 withSets n s = record { n = n; sets = s }
 
+-- `under` by the sets alone: it does not look at the number of levels
 abbrev pub underIn : List ℕ → ℕ → ℕ → Bool
 underIn s = under (withSets 0 s)
 
@@ -41,8 +42,11 @@ abbrev pub isSet : List ℕ → ℕ → ℕ → Bool
 isSet s x k = eqb (getD s k 0) x
 
 -- The sets of the turned order: bit i of set j is bit j of set i.
+abbrev pub turnedBit : List ℕ → ℕ → ℕ → ℕ
+turnedBit s j i = getD s i 0 / 2 ^ j % 2
+
 abbrev pub turnedSet : List ℕ → ℕ → ℕ
-turnedSet s j = gather (λ i. getD s i 0 / 2 ^ j % 2) 16
+turnedSet s j = gather (turnedBit s j) 16
 
 abbrev pub turnedSets : List ℕ → List ℕ
 turnedSets s = fill (turnedSet s) (replicate 16 0) 16

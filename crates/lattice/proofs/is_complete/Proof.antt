@@ -1,5 +1,5 @@
 -- `lattice::is_complete` meets its contract: each table is full where each pair has a join, and the turned sets' joins are the meets. Assumes nothing.
-use mathlib.Core.Path.{_≡_, sym, ap, subst, _∙_}
+use mathlib.Core.Path.{sym, ap, subst, _∙_}
 use mathlib.Core.List.{List}
 use Prim.Native.Nat.{ℕ}
 use borrow.Author.Needs.{needs}
