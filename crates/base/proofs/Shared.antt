@@ -1,7 +1,7 @@
 -- Numbers read as sets of numbers below n: each is below 2 ^ n, and what two of them share is the number with just the bits of both. Assumes nothing.
 use mathlib.Core.Path.{_≡_, sym, ap, subst, _∙_}
 use mathlib.Core.Bool.{false, _&&_}
-use Prim.Native.Nat.{ℕ, _*_, _/_, _^_, _≤_, _<_}
+use Prim.Native.Nat.{ℕ, _/_, _^_, _≤_, _<_}
 use native.Mathlib.Nat.{div-lt-iff-lt-mul, div-eq-of-lt, one-mul}
 use native.Mathlib.Omega.{arith}
 use lib.Bits.{bitAnd, and-lt}

@@ -1,14 +1,13 @@
 -- The turned sets are those of the turned order: they keep the layout and the order, and their joins are the meets. Assumes nothing.
-use mathlib.Core.Path.{_≡_, refl, sym, ap, _∙_}
-use Prim.Native.Nat.{ℕ, _/_, _%_, _^_, _≤_, _<_}
+use mathlib.Core.Path.{_≡_, sym, ap, _∙_}
+use Prim.Native.Nat.{ℕ, _/_, _^_, _≤_, _<_}
 use native.Mathlib.Nat.{mod-lt, zero-lt-suc}
 use native.Mathlib.Decide.{decLt}
 use native.Mathlib.Omega.{arith}
-use mathlib.Core.Bool.{Bool, true, false}
+use mathlib.Core.Bool.{Bool, false}
 use mathlib.Core.List.{List}
 use lib.Dec.{eqb}
-use lib.ListN.{getD, replicate, length, length-replicate}
-use Rattle.base.specs.Below.{allBelow, anyBelow}
+use lib.ListN.{getD, replicate, length-replicate}
 use Rattle.base.specs.Bits.{bit}
 use Rattle.base.proofs.Below.{all-same, any-same}
 use Rattle.base.proofs.Filled.{fill-at}
@@ -16,7 +15,7 @@ use Rattle.base.proofs.Gather.{gather-lt, gather-digit}
 use Rattle.base.proofs.Shared.{lt-within, zero-bits, empty}
 use Rattle.lattice.specs.Order.{Order, turned}
 use Rattle.lattice.specs.Levels.{isJoin, underAt, joined, Layout}
-use Rattle.lattice.specs.Sets.{withSets, underIn, Sound, turnedSet, turnedSets}
+use Rattle.lattice.specs.Sets.{withSets, underIn, Sound, turnedBit, turnedSet, turnedSets}
 
 -- two orders that agree on the levels below n
 module _ (n : ℕ) (le le′ : ℕ → ℕ → Bool) (h : (i j : ℕ) → i < n → j < n → le′ i j ≡ le i j) where
@@ -43,24 +42,21 @@ order-turned n le o = record {
 }
 
 module _ (s : List ℕ) where
-  abbrev digits : ℕ → ℕ → ℕ
-  digits j i = getD s i 0 / 2 ^ j % 2
-
-  small : (j i : ℕ) → digits j i < 2
-  small j i = mod-lt (getD s i 0 / 2 ^ j) (zero-lt-suc 1)
+  pub turned-small : (j i : ℕ) → turnedBit s j i < 2
+  turned-small j i = mod-lt (getD s i 0 / 2 ^ j) (zero-lt-suc 1)
 
   turned-get : (j : ℕ) → j < 16 → getD (turnedSets s) j 0 ≡ turnedSet s j
   turned-get j l = fill-at (turnedSet s) (replicate 16 0) 16 j 0 (rw (length-replicate {A = ℕ} 16 0) (let b : 16 ≤ 16 = omega arith in b)) l
 
   turned-at : (j i : ℕ) → j < 16 → i < 16 → underIn (turnedSets s) j i ≡ underIn s i j
-  turned-at j i p q = ap (λ (x : ℕ). bit x i) (turned-get j p) ∙ ap (λ (d : ℕ). eqb d 1) (gather-digit (digits j) (small j) 16 i q)
+  turned-at j i p q = ap (λ (x : ℕ). bit x i) (turned-get j p) ∙ ap (λ (d : ℕ). eqb d 1) (gather-digit (turnedBit s j) (turned-small j) 16 i q)
 
   module _ (n : ℕ) (y : Layout (withSets n s)) where
     -- no bit of a turned set from n on, and none at all of one that is not used
     turned-clear : (j i : ℕ) → j < 16 → n ≤ i → underIn (turnedSets s) j i ≡ false
     turned-clear j i p h = elim (decLt i 16) [
       | yes q ↦ turned-at j i p q ∙ ap (λ (x : ℕ). bit x j) (y .sets-from-n i h q) ∙ zero-bits j
-      | no q ↦ ap (λ (x : ℕ). bit x i) (turned-get j p) ∙ lt-within 16 (turnedSet s j) (gather-lt (digits j) (small j) 16) i (omega arith)
+      | no q ↦ ap (λ (x : ℕ). bit x i) (turned-get j p) ∙ lt-within 16 (turnedSet s j) (gather-lt (turnedBit s j) (turned-small j) 16) i (omega arith)
     ]
 
     turned-unused : (j : ℕ) → n ≤ j → j < 16 → getD (turnedSets s) j 0 ≡ 0

@@ -1,34 +1,30 @@
 -- What whole sets say of single levels: two sets that share their bits, and the join of two levels as the level whose set is what theirs share.
 -- Assumes nothing.
-use mathlib.Core.Path.{_≡_, refl, sym, ap, subst, _∙_}
+use mathlib.Core.Path.{_≡_, refl, sym, ap, _∙_}
 use Prim.Native.Nat.{ℕ, _≤_, _<_}
 use native.Mathlib.Omega.{arith}
 use native.Mathlib.Decide.{decLt}
-use mathlib.Core.Bool.{Bool, true, false, cond, not, _&&_}
+use mathlib.Core.Bool.{true, false, cond, not, _&&_}
 use mathlib.Core.List.{List}
 use lib.Bits.{bitAnd}
 use lib.Dec.{eqb, ltb}
 use lib.ListN.{getD}
 use borrow.Author.Tests.{eqb-true, eqb-false, eq-eqb, not-true}
-use Rattle.base.specs.Below.{allBelow, firstBelow, implies}
+use Rattle.base.specs.Below.{allBelow, implies}
 use Rattle.base.specs.Bits.{bit}
 use Rattle.base.specs.Last.{lastBelow}
 use Rattle.base.proofs.Logic.{split, true-false, same-test, and-true, and-both, implies-true, implies-intro, not-is-true}
 use Rattle.base.proofs.Below.{all-at, all-yes}
 use Rattle.base.proofs.Last.{last-first, first-same}
 use Rattle.base.proofs.Shared.{Within, shared, shared-at, zero-bits}
-use Rattle.lattice.specs.Order.{Order, Join}
+use Rattle.lattice.specs.Order.{Order}
 use Rattle.lattice.specs.Levels.{Layout, ordered, isJoin, joinOf}
-use Rattle.lattice.specs.Sets.{withSets, underIn, Sound, pairOrdered, rowOrdered, isSet}
+use Rattle.lattice.specs.Sets.{withSets, underIn, Sound, strictly, pairOrdered, rowOrdered, isSet}
 use Rattle.lattice.proofs.Laws.{order-iff, join-says, join-holds}
 
 module _ (n : ℕ) (s : List ℕ) where
   abbrev set : ℕ → ℕ
   set i = getD s i 0
-
-  -- where i is under another level j: j is not under i, and the set of j lies in that of i
-  abbrev strictly : ℕ → ℕ → Bool
-  strictly i j = not (underIn s j i) && eqb (bitAnd (set i) (set j)) (set j)
 
   -- no bit of a level's set from n on
   within : Layout (withSets n s) → (i : ℕ) → i < n → Within n (set i)
@@ -40,8 +36,8 @@ module _ (n : ℕ) (s : List ℕ) where
 
     pair-other : eqb i j ≡ false → underIn s i j ≡ true → (not (underIn s j i) ≡ true) × (eqb (bitAnd (set i) (set j)) (set j) ≡ true)
     pair-other z u =
-        let f : implies (underIn s i j) (strictly i j) ≡ true = rw z at e in
-        and-true (not (underIn s j i)) (eqb (bitAnd (set i) (set j)) (set j)) (implies-true (underIn s i j) (strictly i j) f u)
+        let f : implies (underIn s i j) (strictly s i j) ≡ true = rw z at e in
+        and-true (not (underIn s j i)) (eqb (bitAnd (set i) (set j)) (set j)) (implies-true (underIn s i j) (strictly s i j) f u)
 
   pairs-order : ((i : ℕ) → i < n → (j : ℕ) → j < n → pairOrdered s i j ≡ true) → Order n (underIn s)
   pairs-order h = record {
@@ -57,14 +53,14 @@ module _ (n : ℕ) (s : List ℕ) where
   }
 
   module _ (y : Layout (withSets n s)) (o : Order n (underIn s)) (i : ℕ) (p : i < n) (j : ℕ) (q : j < n) where
-    order-strictly : eqb i j ≡ false → underIn s i j ≡ true → strictly i j ≡ true
+    order-strictly : eqb i j ≡ false → underIn s i j ≡ true → strictly s i j ≡ true
     order-strictly z u = and-both _ _
         (not-is-true (underIn s j i) (split (underIn s j i) (λ v. absurd (eqb-false i j z (o .antisymmetric i j p q u v))) (λ v. v)))
         (eq-eqb _ _ (sym (shared n (set j) (set i) (set j) (within y j q) (within y i p) (within y j q)
         (λ k r. same-test (underIn s j k) (underIn s i k && underIn s j k) (λ v. and-both _ _ (o .transitive i j k p q r u v) v) (λ w. and-true (underIn s i k) (underIn s j k) w .1)))))
 
     order-pair : pairOrdered s i j ≡ true
-    order-pair = split (eqb i j) (λ z. rw z (o .reflexive i p)) (λ z. rw z (implies-intro (underIn s i j) (strictly i j) (order-strictly z)))
+    order-pair = split (eqb i j) (λ z. rw z (o .reflexive i p)) (λ z. rw z (implies-intro (underIn s i j) (strictly s i j) (order-strictly z)))
 
   -- 8 by whole sets: each pair passes where the levels are in order, and only there.
   pub pairs-ordered : Layout (withSets n s) → allBelow (rowOrdered s n) n ≡ ordered n (underIn s)
@@ -73,7 +69,7 @@ module _ (n : ℕ) (s : List ℕ) where
       (λ e. let o = order-iff n (underIn s) .0 e in all-yes n (rowOrdered s n) (λ i p. all-yes n (pairOrdered s i) (order-pair y o i p)))
 
   module _ (w : Sound n s) (i j : ℕ) (p : i < n) (q : j < n) where
-    -- THE LAW: level k is the join of i and j where its set is what theirs share, and only there.
+    -- The law of joins: level k is the join of i and j where its set is what theirs share, and only there.
     pub join-set : (k : ℕ) → k < n → isSet s (bitAnd (set i) (set j)) k ≡ isJoin n (underIn s) i j k
     join-set k r = same-test _ _
         (λ e.

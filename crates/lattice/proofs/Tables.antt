@@ -1,11 +1,11 @@
 -- A table of joins has an entry at each pair of levels where each pair has a join, and only there. Assumes nothing.
-use mathlib.Core.Path.{_≡_, sym, ap, subst, _∙_}
+use mathlib.Core.Path.{_≡_, ap, _∙_}
 use Prim.Native.Nat.{ℕ, _≤_, _<_}
 use native.Mathlib.Omega.{arith}
 use mathlib.Core.Bool.{Bool, not}
 use mathlib.Core.List.{List, []}
 use lib.Dec.{eqb}
-use lib.ListN.{getD, replicate, length, length-replicate}
+use lib.ListN.{replicate, length-replicate}
 use Rattle.base.specs.Below.{allBelow, anyBelow}
 use Rattle.base.proofs.Below.{all-same}
 use Rattle.base.proofs.Filled.{fill-at}

@@ -16,6 +16,7 @@ use Rattle.lattice.specs.Levels.{under, Layout}
 abbrev pub withSets : ℕ → List ℕ → Lattice
 withSets n s = record { n = n; sets = s }
 
+-- `under` by the sets alone: it does not look at the number of levels
 abbrev pub underIn : List ℕ → ℕ → ℕ → Bool
 underIn s = under (withSets 0 s)
 
@@ -24,10 +25,13 @@ pub record Sound (n : ℕ) (s : List ℕ) : Type 0 where
   pub clean : Layout (withSets n s)
   pub order : Order n (underIn s)
 
--- Levels i and j are in order: a level is under itself; and where i is under another level j, j is not under i, and the set of j lies in that of i.
+-- Level i is under another level j: then j is not under i, and the set of j lies in that of i.
+abbrev pub strictly : List ℕ → ℕ → ℕ → Bool
+strictly s i j = not (underIn s j i) && eqb (bitAnd (getD s i 0) (getD s j 0)) (getD s j 0)
+
+-- Levels i and j are in order. A level is under itself.
 abbrev pub pairOrdered : List ℕ → ℕ → ℕ → Bool
-pairOrdered s i j =
-    cond (eqb i j) (underIn s i i) (implies (underIn s i j) (not (underIn s j i) && eqb (bitAnd (getD s i 0) (getD s j 0)) (getD s j 0)))
+pairOrdered s i j = cond (eqb i j) (underIn s i i) (implies (underIn s i j) (strictly s i j))
 
 -- level i is in order with each level
 abbrev pub rowOrdered : List ℕ → ℕ → ℕ → Bool
@@ -38,8 +42,11 @@ abbrev pub isSet : List ℕ → ℕ → ℕ → Bool
 isSet s x k = eqb (getD s k 0) x
 
 -- The sets of the turned order: bit i of set j is bit j of set i.
+abbrev pub turnedBit : List ℕ → ℕ → ℕ → ℕ
+turnedBit s j i = getD s i 0 / 2 ^ j % 2
+
 abbrev pub turnedSet : List ℕ → ℕ → ℕ
-turnedSet s j = gather (λ i. getD s i 0 / 2 ^ j % 2) 16
+turnedSet s j = gather (turnedBit s j) 16
 
 abbrev pub turnedSets : List ℕ → List ℕ
 turnedSets s = fill (turnedSet s) (replicate 16 0) 16

@@ -1,8 +1,6 @@
 // Lattices of levels: the test that a lattice record is a lattice, by its table of joins and its table of meets.
 ghost use mathlib.Core.Path.{_≡_};
-ghost use mathlib.Core.Bool.{Bool, true};
-ghost use Prim.Native.Nat.{ℕ, _<_, _≤_};
-ghost use lib.ListN.{getD};
+ghost use Prim.Native.Nat.{_<_, _≤_};
 ghost use Rattle.base.specs.Below.{allBelow};
 ghost use Rattle.base.specs.Bits.{bit};
 ghost use Rattle.base.specs.Last.{lastBelow};
@@ -16,13 +14,14 @@ pub struct Lattice {
     pub sets: [u16; 16],
 }
 
+// A set may be shifted by 16, for n = 16, which its own width does not allow.
 fn wide(x: u16) -> u32
     ensures { λ r. ⌜ r ≡ x ⌝ }
 {
     x as u32
 }
 
-// Set i has no bit from n on, and none at all where level i is not used. A shift by 16 wants the wider number.
+// Set i has no bit from n on, and none at all where level i is not used.
 fn set_clear(s: &[u16; 16], n: usize, i: usize) -> bool
     requires { ⌜ (n ≤ 16) × (i < 16) ⌝ }
     ensures { λ r. ⌜ r ≡ setClear (withSets n (now (s .entry))) i ⌝ }
@@ -61,6 +60,7 @@ fn laid_out(s: &[u16; 16], n: usize) -> bool
     sets_clear(s, n)
 }
 
+// Level i is in the set x.
 fn has(x: u16, i: usize) -> bool
     requires { ⌜ i < 16 ⌝ }
     ensures { λ r. ⌜ r ≡ bit x i ⌝ }
@@ -167,6 +167,7 @@ fn join(s: &[u16; 16], n: usize, i: usize, j: usize) -> u8
     if (k as usize) < n { k as u8 } else { 255 }
 }
 
+// Entries from n on stay 255: they are of no pair of levels.
 fn join_row(s: &[u16; 16], n: usize, i: usize) -> [u8; 16]
     requires { ⌜ Sound n (now s) × (i < n) ⌝ }
     ensures { λ r. ⌜ r ≡ joinRow n (underIn (now (s .entry))) i ⌝ }
@@ -231,7 +232,9 @@ fn is_complete(s: &[u16; 16], n: usize) -> bool
     ensures { λ r. ⌜ r ≡ complete (withSets n (now (s .entry))) ⌝ }
 {
     let t = turned(s);
-    full(joins(s, n), n) && full(joins(&t, n), n)
+    let least_above = joins(s, n);
+    let greatest_under = joins(&t, n);
+    full(least_above, n) && full(greatest_under, n)
 }
 
 // The number that refuses a lattice record, or 0.

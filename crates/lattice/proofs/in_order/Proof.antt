@@ -1,7 +1,7 @@
 -- `lattice::in_order` meets its contract: a scan of the rows, and the law that pairs compared by whole sets are in order. Assumes nothing.
 use Prim.Native.Nat.{_≤_, _-_}
 use mathlib.Core.Path.{_≡_, _∙_}
-use mathlib.Core.Bool.{true, false}
+use mathlib.Core.Bool.{true}
 use borrow.Author.Needs.{needs}
 use Rattle.base.specs.Below.{allBelow}
 use Rattle.base.proofs.Scan.{scan, all-off, all-ends}

@@ -1,36 +1,31 @@
 -- `lattice::turned_set` meets its contract: the bits passed are gathered, and a further one fits. Assumes nothing.
-use Prim.Native.Nat.{ℕ, _+_, _*_, _/_, _%_, _^_, _≤_, _<_, _-_}
-use mathlib.Core.Path.{_≡_, sym, ap, _∙_}
+use Prim.Native.Nat.{ℕ, _+_, _*_, _%_, _^_, _≤_, _<_, _-_}
+use mathlib.Core.Path.{_≡_, ap, _∙_}
 use mathlib.Core.List.{List}
-use native.Mathlib.Nat.{mod-lt, zero-lt-suc, lt-of-lt-of-le}
+use native.Mathlib.Nat.{lt-of-lt-of-le}
 use native.Mathlib.Omega.{arith}
-use lib.ListN.{getD}
 use lib.Pow.{shl-exact, pow-mono}
 use borrow.Author.Needs.{needs}
 use Rattle.base.specs.Gather.{gather}
 use Rattle.base.proofs.Gather.{gather-none, gather-more, gather-lt}
+use Rattle.lattice.specs.Sets.{turnedBit}
+use Rattle.lattice.proofs.Meets.{turned-small}
 use Rattle.lattice.proofs.turned_set.Statement.{statement}
 use Rattle.lattice.proofs.turned_set.Tie as tie
 
-abbrev bitsOf : List ℕ → ℕ → ℕ → ℕ
-bitsOf s j i = getD s i 0 / 2 ^ j % 2
-
-small : (s : List ℕ) (j i : ℕ) → bitsOf s j i < 2
-small s j i = mod-lt (getD s i 0 / 2 ^ j) (zero-lt-suc 1)
-
 -- bit i, moved to its place, loses nothing
-placed : (s : List ℕ) (j i : ℕ) → i < 16 → (bitsOf s j i * 2 ^ i) % 65536 ≡ bitsOf s j i * 2 ^ i
-placed s j i l = shl-exact 1 i 16 (small s j i) (omega arith)
+placed : (s : List ℕ) (j i : ℕ) → i < 16 → (turnedBit s j i * 2 ^ i) % 65536 ≡ turnedBit s j i * 2 ^ i
+placed s j i l = shl-exact 1 i 16 (turned-small s j i) (omega arith)
 
-module _ (s : List ℕ) (j i x : ℕ) (l : i < 16) (e : x ≡ gather (bitsOf s j) i) where
-  next : x + (bitsOf s j i * 2 ^ i) % 65536 ≡ gather (bitsOf s j) (i + 1)
-  next = rw (placed s j i l) (gather-more (bitsOf s j) i e)
+module _ (s : List ℕ) (j i x : ℕ) (l : i < 16) (e : x ≡ gather (turnedBit s j) i) where
+  next : x + (turnedBit s j i * 2 ^ i) % 65536 ≡ gather (turnedBit s j) (i + 1)
+  next = rw (placed s j i l) (gather-more (turnedBit s j) i e)
 
-  fits : x + (bitsOf s j i * 2 ^ i) % 65536 < 65536
-  fits = rw next (lt-of-lt-of-le (gather-lt (bitsOf s j) (small s j) (i + 1)) (pow-mono (let b : i + 1 ≤ 16 = omega arith in b)))
+  fits : x + (turnedBit s j i * 2 ^ i) % 65536 < 65536
+  fits = rw next (lt-of-lt-of-le (gather-lt (turnedBit s j) (turned-small s j) (i + 1)) (pow-mono (let b : i + 1 ≤ 16 = omega arith in b)))
 
 abbrev Inv-loop : tie.InvT-loop
-Inv-loop s j x₀ i₀ x i = (i ≤ 16) × (x ≡ gather (bitsOf s j) i)
+Inv-loop s j x₀ i₀ x i = (i ≤ 16) × (x ≡ gather (turnedBit s j) i)
 
 abbrev μ-loop : tie.MeasureT-loop
 μ-loop s j x₀ i₀ x i = 16 - i
