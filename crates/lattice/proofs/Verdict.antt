@@ -95,3 +95,14 @@ module _ (l : Lattice) where
 
   pub verdict : Verdict l
   verdict = record { accepted = accepted; seven = seven; eight = eight; nine = nine }
+
+zero-left : (a b c : Bool) → (number a b c ≡ 7 → ⊥) → (number a b c ≡ 8 → ⊥) → (number a b c ≡ 9 → ⊥) → number a b c ≡ 0
+zero-left true true true x y z = refl
+zero-left true true false x y z = absurd (z refl)
+zero-left true false c x y z = absurd (y refl)
+zero-left false b c x y z = absurd (x refl)
+
+-- there is no other number
+pub refusal-zero : (l : Lattice) → (refusal l ≡ 7 → ⊥) → (refusal l ≡ 8 → ⊥) → (refusal l ≡ 9 → ⊥) → refusal l ≡ 0
+unfolding refusal
+refusal-zero l = zero-left (layout l) (ordered (l .n) (under l)) (complete l)

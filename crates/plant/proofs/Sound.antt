@@ -16,7 +16,7 @@ use Rattle.base.proofs.Bits.{clear-bit, clear-yes, no-bits, zero-bit}
 use Rattle.lattice.specs.Levels.{refusal, Layout}
 use Rattle.lattice.specs.Levels as levels
 use Rattle.lattice.specs.Order.{IsLattice}
-use Rattle.lattice.proofs.Verdict.{verdict}
+use Rattle.lattice.proofs.Verdict.{verdict, refusal-zero}
 use Rattle.layout.specs.Header.{countRight}
 use Rattle.plant.specs.declared.Plant.{Plant}
 use Rattle.plant.specs.Plant.{latticeAt, countsOf, requirementOf, groupOf, levelOf, levelsOf, latticeOf, names, rightsOf, needs}
@@ -116,3 +116,58 @@ module _ (p : Plant) where
       | no y ↦ omega arith
     ]
   ]
+
+  twins-back : ((a b : ℕ) → a < p .tanks → b < p .tanks → groupOf p a ≡ groupOf p b → levelOf p a ≡ levelOf p b → a ≡ b) → noTwins p ≡ true
+  unfolding noTwins
+  twins-back f =
+      all-yes (p .tanks) _ (λ a l. all-yes a _ (λ b m.
+      split (twins p a b)
+      (λ e.
+      let q = and-true (eqb (groupOf p a) (groupOf p b)) (eqb (levelOf p a) (levelOf p b)) e in
+      let z : a ≡ b = f a b l (omega arith) (eqb-true _ _ (q .0)) (eqb-true _ _ (q .1)) in
+      absurd (omega arith))
+      (λ e. rw e)))
+
+  -- tasks
+  judged-words : allJudged p ≡ true → (t g r : ℕ) → t < p .tasks → g < p .groups → bit (rightsOf p t g) r ≡ true → names p t (requirementOf p g) ≡ true
+  unfolding allJudged
+  judged-words e t g r l m b =
+      implies-true (needs p t g) (names p t (requirementOf p g))
+      (all-at (p .groups) (judged p t) (all-at (p .tasks) (λ (x : ℕ). allBelow (judged p x) (p .groups)) e t l) g m)
+      (ap not (ne-eqb (rightsOf p t g) 0 (λ z. true-false (sym b ∙ ap (λ (x : ℕ). bit x r) z ∙ zero-bit r))))
+
+  judged-back : ((t g r : ℕ) → t < p .tasks → g < p .groups → bit (rightsOf p t g) r ≡ true → names p t (requirementOf p g) ≡ true) → allJudged p ≡ true
+  unfolding allJudged
+  judged-back f =
+      all-yes (p .tasks) _ (λ t l. all-yes (p .groups) _ (λ g m. implies-intro (needs p t g) (names p t (requirementOf p g)) (λ n.
+      split (names p t (requirementOf p g)) (λ e. e)
+      (λ e. absurd (eqb-false (rightsOf p t g) 0 (not-true _ n)
+      (no-bits (rightsOf p t g) (λ r. split (bit (rightsOf p t g) r) (λ b. absurd (true-false (sym (f t g r l m b) ∙ e))) (λ b. b))))))))
+
+  pub sound : Passed p → Sound p
+  sound s = record {
+    counts = record { in-range = count-in p (s .counts-in) };
+    layouts = λ l h. verdict (latticeAt p l) .accepted .0 (zero l h) .0;
+    lattices = λ l h. verdict (latticeAt p l) .accepted .0 (zero l h) .1;
+    numbers = numbers-words (s .numbers-right);
+    no-twins = twins-words (s .no-twins);
+    all-judged = judged-words (s .all-judged);
+  }
+    where
+      zero : (l : ℕ) → l < p .lattices → refusal (latticeAt p l) ≡ 0
+      zero l h = refusal-zero (latticeAt p l) (not-number 7 l (s .no-7) h) (not-number 8 l (s .no-8) h) (not-number 9 l (s .no-9) h)
+
+  no-number : Sound p → (k : ℕ) → eqb 0 k ≡ false → latticeFails p k ≡ false
+  unfolding latticeFails
+  no-number s k e = any-none (p .lattices) _ (λ l h. ap (λ (x : ℕ). eqb x k) (verdict (latticeAt p l) .accepted .1 (s .layouts l h, s .lattices l h)) ∙ e)
+
+  pub passes : Sound p → Passed p
+  passes s = record {
+    counts-in = counts-back (s .counts);
+    no-7 = no-number s 7 refl;
+    no-8 = no-number s 8 refl;
+    no-9 = no-number s 9 refl;
+    numbers-right = numbers-back (s .numbers);
+    no-twins = twins-back (s .no-twins);
+    all-judged = judged-back (s .all-judged);
+  }

@@ -18,11 +18,11 @@ use Rattle.reader.specs.Reading.{plantOf, latticeZeros, otherZeros, refu
 
 module _ (file : List ℕ) where
   -- the plant has the file's counts
-  counts-same : countsIn (plantOf file) ≡ countsRight file
+  pub counts-same : countsIn (plantOf file) ≡ countsRight file
   unfolding countsIn countsRight allBelow
   counts-same = refl
 
-  chained : openingRefusal file ≡ cond (eqb (placed file) 0) (first (recordChecks (latticeZeros file) (otherZeros file) (plantOf file))) (placed file)
+  pub chained : openingRefusal file ≡ cond (eqb (placed file) 0) (first (recordChecks (latticeZeros file) (otherZeros file) (plantOf file))) (placed file)
   unfolding openingRefusal placed
   chained = first-append (placing file) (recordChecks (latticeZeros file) (otherZeros file) (plantOf file)) (refl, (refl, (refl, (refl, (refl, (refl, tt))))))
 
