@@ -10,3 +10,4 @@ pub mod Both
 pub mod Last
 pub mod Gather
 pub mod Shared
+pub mod Meaning

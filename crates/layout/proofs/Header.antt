@@ -1,23 +1,23 @@
--- Checks 1 to 6 are what their words say: `placed` is 0 exactly where `Placed` holds. Assumes nothing.
+-- Checks 1 to 6: each computed test means its rule in words; and what a placed file has. Assumes nothing.
 use mathlib.Core.Path.{_≡_, refl, sym, ap, _∙_}
 use mathlib.Core.Logic.{_↔_}
 use Prim.Native.Nat.{ℕ, zero, suc, _+_, _*_, _≤_, _<_}
 use native.Mathlib.Omega.{arith}
 use native.Mathlib.Nat.{mul-pos}
-use native.Mathlib.Decide.{ℕ-discrete, decLt, decLe}
+use native.Mathlib.Decide.{decLt, decLe}
 use mathlib.Core.Bool.{Bool, true, false, not, _&&_, _||_}
 use mathlib.Core.List.{List, []}
 use lib.Dec.{eqb, leb}
 use lib.ListN.{length}
 use borrow.Author.Tests.{leb-true, leb-false, eqb-true, le-leb, eq-eqb, ne-eqb, le-ltb, lt-ltb, not-false}
 use Rattle.base.specs.Below.{allBelow}
-use Rattle.base.specs.Chain.{Clear}
-use Rattle.base.proofs.Logic.{split, and-true, and-both, or-cases, or-left, or-right, not-is-false}
+use Rattle.base.specs.Chain.{Keeps, Means}
+use Rattle.base.proofs.Logic.{split, and-true, and-both, or-cases, or-left, or-right}
 use Rattle.base.proofs.Below.{all-at, all-yes}
-use Rattle.base.proofs.Chain.{clear, accepts}
+use Rattle.base.proofs.Meaning.{checked, means-zero}
 use Rattle.layout.proofs.Sizes.{width-some}
 use Rattle.layout.specs.Layout.{byteAt, wordAt, limit, count, offset, end, part}
-use Rattle.layout.specs.Header.{lengthRight, editionRight, countRight, countsRight, zerosRight, inside, allInside, apart, allApart, placing, placed, InSection, Placed, sectionOf}
+use Rattle.layout.specs.Header.{lengthRight, editionRight, countRight, countsRight, zerosRight, inside, allInside, apart, allApart, placing, placed, LengthSaid, CountsInRange, HeaderZeros, SectionsInside, InSection, NoSharedByte, placingRules, sectionOf}
 
 module _ (file : List ℕ) where
   -- the header is there, from what the first test returned
@@ -25,49 +25,55 @@ module _ (file : List ℕ) where
   unfolding lengthRight
   whole-header {r} e n = leb-true _ _ (and-true (leb 24 (length file)) (leb (length file) 4096 && eqb (wordAt file 20) (length file)) (sym e ∙ not-false r n) .0)
 
-  -- the six tests, from the number
-  pub record Passed : Type 0 where
-    pub length-right : lengthRight file ≡ true
-    pub edition-right : editionRight file ≡ true
-    pub counts-right : countsRight file ≡ true
-    pub zeros-right : zerosRight file ≡ true
-    pub all-inside : allInside file ≡ true
-    pub all-apart : allApart file ≡ true
+  length-words : lengthRight file ≡ true → LengthSaid file
+  unfolding lengthRight
+  length-words e =
+      let a = and-true (leb 24 (length file)) (leb (length file) 4096 && eqb (wordAt file 20) (length file)) e in
+      let b = and-true (leb (length file) 4096) (eqb (wordAt file 20) (length file)) (a .1) in
+      record { whole-header = leb-true _ _ (a .0); within-limit = leb-true _ _ (b .0); said = eqb-true _ _ (b .1) }
 
-  pub passed : placed file ≡ 0 → Passed
-  unfolding placed
-  passed e =
-      let k = clear (placing file) (refl, (refl, (refl, (refl, (refl, (refl, tt)))))) e in
-      record {
-        length-right = not-false _ (k .0);
-        edition-right = not-false _ (k .1 .0);
-        counts-right = not-false _ (k .1 .1 .0);
-        zeros-right = not-false _ (k .1 .1 .1 .0);
-        all-inside = not-false _ (k .1 .1 .1 .1 .0);
-        all-apart = not-false _ (k .1 .1 .1 .1 .1 .0);
-      }
+  length-back : LengthSaid file → lengthRight file ≡ true
+  unfolding lengthRight
+  length-back w = and-both _ _ (le-leb _ _ (w .whole-header)) (and-both _ _ (le-leb _ _ (w .within-limit)) (eq-eqb _ _ (w .said)))
 
-  pub all-passed : Passed → placed file ≡ 0
-  unfolding placed
-  all-passed p =
-      accepts (placing file)
-      (not-is-false _ (p .length-right), (not-is-false _ (p .edition-right), (not-is-false _ (p .counts-right), (not-is-false _ (p .zeros-right), (not-is-false _ (p .all-inside), (not-is-false _ (p .all-apart), tt))))))
+  edition-words : editionRight file ≡ true → byteAt file 0 ≡ 1
+  unfolding editionRight
+  edition-words e = eqb-true _ _ e
 
-  counts-at : countsRight file ≡ true → (k : ℕ) → k < 6 → (1 ≤ count file k) × (count file k ≤ limit k)
+  edition-back : byteAt file 0 ≡ 1 → editionRight file ≡ true
+  unfolding editionRight
+  edition-back w = eq-eqb _ _ w
+
+  counts-words : countsRight file ≡ true → CountsInRange file
   unfolding countsRight countRight
-  counts-at e k l =
+  counts-words e k l =
       let q = and-true (leb 1 (count file k)) (leb (count file k) (limit k)) (all-at 6 (λ (i : ℕ). countRight i (count file i)) e k l) in
       (leb-true _ _ (q .0), leb-true _ _ (q .1))
 
-  inside-at : allInside file ≡ true → (k : ℕ) → k < 6 → (24 ≤ offset file k) × (end file k ≤ length file)
+  pub counts-back : CountsInRange file → countsRight file ≡ true
+  unfolding countsRight countRight
+  counts-back w = all-yes 6 _ (λ k l. and-both _ _ (le-leb _ _ (w k l .0)) (le-leb _ _ (w k l .1)))
+
+  zeros-words : zerosRight file ≡ true → HeaderZeros file
+  unfolding zerosRight
+  zeros-words e =
+      let z = and-true (eqb (byteAt file 7) 0) (eqb (byteAt file 22) 0 && eqb (byteAt file 23) 0) e in
+      let y = and-true (eqb (byteAt file 22) 0) (eqb (byteAt file 23) 0) (z .1) in
+      record { zero-7 = eqb-true _ _ (z .0); zero-22 = eqb-true _ _ (y .0); zero-23 = eqb-true _ _ (y .1) }
+
+  zeros-back : HeaderZeros file → zerosRight file ≡ true
+  unfolding zerosRight
+  zeros-back w = and-both _ _ (eq-eqb _ _ (w .zero-7)) (and-both _ _ (eq-eqb _ _ (w .zero-22)) (eq-eqb _ _ (w .zero-23)))
+
+  inside-words : allInside file ≡ true → SectionsInside file
   unfolding allInside inside
-  inside-at e k l =
+  inside-words e k l =
       let q = and-true (leb 24 (offset file k)) (leb (end file k) (length file)) (all-at 6 (inside file) e k l) in
       (leb-true _ _ (q .0), leb-true _ _ (q .1))
 
-  apart-at : allApart file ≡ true → (i j : ℕ) → i < 6 → j < i → apart file i j ≡ true
-  unfolding allApart
-  apart-at e i j l m = all-at i (apart file i) (all-at 6 (λ (x : ℕ). allBelow (apart file x) x) e i l) j m
+  inside-back : SectionsInside file → allInside file ≡ true
+  unfolding allInside inside
+  inside-back w = all-yes 6 _ (λ k l. and-both _ _ (le-leb _ _ (w k l .0)) (le-leb _ _ (w k l .1)))
 
   -- two sections that are apart have no byte in common
   no-byte : (i j b : ℕ) → apart file i j ≡ true → InSection file i b → InSection file j b → ⊥
@@ -77,36 +83,24 @@ module _ (file : List ℕ) where
       (λ h. omega (arith, leb-true (end file i) (offset file j) h))
       (λ h. omega (arith, leb-true (end file j) (offset file i) (or-cases _ _ e h)))
 
-  pub placed-words : placed file ≡ 0 → Placed file
-  unfolding lengthRight editionRight zerosRight
-  placed-words e =
-      let p = passed e in
-      let a = and-true (leb 24 (length file)) (leb (length file) 4096 && eqb (wordAt file 20) (length file)) (p .length-right) in
-      let b = and-true (leb (length file) 4096) (eqb (wordAt file 20) (length file)) (a .1) in
-      let z = and-true (eqb (byteAt file 7) 0) (eqb (byteAt file 22) 0 && eqb (byteAt file 23) 0) (p .zeros-right) in
-      let y = and-true (eqb (byteAt file 22) 0) (eqb (byteAt file 23) 0) (z .1) in
-      record {
-        whole-header = leb-true _ _ (a .0);
-        within-limit = leb-true _ _ (b .0);
-        length-said = eqb-true _ _ (b .1);
-        edition = eqb-true _ _ (p .edition-right);
-        counts-some = λ k l. counts-at (p .counts-right) k l .0;
-        counts-fit = λ k l. counts-at (p .counts-right) k l .1;
-        zero-7 = eqb-true _ _ (z .0);
-        zero-22 = eqb-true _ _ (y .0);
-        zero-23 = eqb-true _ _ (y .1);
-        behind-header = λ k l. inside-at (p .all-inside) k l .0;
-        within-file = λ k l. inside-at (p .all-inside) k l .1;
-        no-shared-byte = λ i j b l m x y. elim (decLt j i) [
-          | yes d ↦ absurd (no-byte i j b (apart-at (p .all-apart) i j l d) x y)
-          | no d ↦ elim (decLt i j) [
-            | yes f ↦ absurd (no-byte j i b (apart-at (p .all-apart) j i m f) y x)
-            | no f ↦ omega arith
-          ]
-        ];
-      }
+  apart-at : allApart file ≡ true → (i j : ℕ) → i < 6 → j < i → apart file i j ≡ true
+  unfolding allApart
+  apart-at e i j l m = all-at i (apart file i) (all-at 6 (λ (x : ℕ). allBelow (apart file x) x) e i l) j m
 
-  -- A section that is not empty and shares no byte with another ends before it or begins behind it.
+  apart-words : allApart file ≡ true → NoSharedByte file
+  apart-words e i j b l m x y = elim (decLt j i) [
+    | yes d ↦ absurd (no-byte i j b (apart-at e i j l d) x y)
+    | no d ↦ elim (decLt i j) [
+      | yes f ↦ absurd (no-byte j i b (apart-at e j i m f) y x)
+      | no f ↦ omega arith
+    ]
+  ]
+
+  -- a section has a byte, since none is empty
+  some-bytes : CountsInRange file → (k : ℕ) → k < 6 → offset file k < end file k
+  some-bytes w k l = omega (arith, mul-pos (w k l .0) (width-some k l))
+
+  -- Two sections that are not empty and share no byte: one ends before the other begins.
   apart-intro : (i j : ℕ) → offset file i < end file i → offset file j < end file j → ((b : ℕ) → InSection file i b → InSection file j b → ⊥) → apart file i j ≡ true
   unfolding apart
   apart-intro i j p q f = elim (decLe (end file i) (offset file j)) [
@@ -120,25 +114,61 @@ module _ (file : List ℕ) where
     ]
   ]
 
-  some-bytes : Placed file → (k : ℕ) → k < 6 → offset file k < end file k
-  some-bytes P k l = omega (arith, mul-pos (P .counts-some k l) (width-some k l))
+  apart-back : CountsInRange file → NoSharedByte file → allApart file ≡ true
+  unfolding allApart
+  apart-back c w =
+      all-yes 6 _ (λ i l. all-yes i _ (λ j m.
+      apart-intro i j (some-bytes c i l) (some-bytes c j (omega arith)) (λ b x y. let e : i ≡ j = w i j b l (omega arith) x y in omega arith)))
 
-  pub words-placed : Placed file → placed file ≡ 0
-  unfolding lengthRight editionRight countsRight countRight zerosRight allInside inside allApart
-  words-placed P =
-      all-passed
-      (record {
-        length-right = and-both _ _ (le-leb _ _ (P .whole-header)) (and-both _ _ (le-leb _ _ (P .within-limit)) (eq-eqb _ _ (P .length-said)));
-        edition-right = eq-eqb _ _ (P .edition);
-        counts-right = all-yes 6 _ (λ k l. and-both _ _ (le-leb _ _ (P .counts-some k l)) (le-leb _ _ (P .counts-fit k l)));
-        zeros-right = and-both _ _ (eq-eqb _ _ (P .zero-7)) (and-both _ _ (eq-eqb _ _ (P .zero-22)) (eq-eqb _ _ (P .zero-23)));
-        all-inside = all-yes 6 _ (λ k l. and-both _ _ (le-leb _ _ (P .behind-header k l)) (le-leb _ _ (P .within-file k l)));
-        all-apart = all-yes 6 _ (λ i l. all-yes i _ (λ j m. apart-intro i j (some-bytes P i l) (some-bytes P j (omega arith)) (λ b x y. let e : i ≡ j = P .no-shared-byte i j b l (omega arith) x y in omega arith)));
-      })
+  -- checks 1 to 6: each test means its rule
+  pub placing-means : Means (placing file) (placingRules file)
+  placing-means = (
+    checked (lengthRight file) length-words length-back,
+    (
+      refl,
+      λ _. (
+        checked (editionRight file) edition-words edition-back,
+        (
+          refl,
+          λ _. (
+            checked (countsRight file) counts-words counts-back,
+            (
+              refl,
+              λ c. (
+                checked (zerosRight file) zeros-words zeros-back,
+                (
+                  refl,
+                  λ _. (
+                    checked (allInside file) inside-words inside-back,
+                    (
+                      refl,
+                      λ _.
+                          (checked (allApart file) apart-words (apart-back c), (refl, λ _. tt)),
+                    ),
+                  ),
+                ),
+              ),
+            ),
+          ),
+        ),
+      ),
+    ),
+  )
 
--- checks 1 to 6, both ways
-pub placed-law : (file : List ℕ) → (placed file ≡ 0) ↔ Placed file
-placed-law file = (placed-words file, words-placed file)
+  pub placed-law : (placed file ≡ 0) ↔ Keeps (placingRules file)
+  unfolding placed
+  placed-law = means-zero (placing file) (placingRules file) (refl, (refl, (refl, (refl, (refl, (refl, tt)))))) placing-means
+
+  -- what the callers of a placed file use
+  module _ (e : placed file ≡ 0) where
+    pub length-said : LengthSaid file
+    length-said = placed-law .0 e .0
+
+    pub counts-in-range : CountsInRange file
+    counts-in-range = placed-law .0 e .1 .1 .0
+
+    pub sections-inside : SectionsInside file
+    sections-inside = placed-law .0 e .1 .1 .1 .1 .0
 
 -- the section call's three ways out: r is the number of the first failed check
 module _ (file : List ℕ) (kind : ℕ) {r : ℕ} (e : r ≡ placed file) where

@@ -6,7 +6,7 @@ use mathlib.Core.List.{List, [], _∷_}
 use lib.Dec.{eqb, leb, ltb}
 use lib.ListN.{length}
 use Rattle.base.specs.Below.{allBelow}
-use Rattle.base.specs.Chain.{Test, _⇒_, first}
+use Rattle.base.specs.Chain.{Test, _⇒_, first, Rule, _refused-by_}
 use Rattle.layout.specs.Layout.{byteAt, wordAt, sections, headerBytes, fileLimit, limit, count, offset, end, part}
 
 -- 1: at least a header, at most 4,096 bytes, and as long as it says: a file that was cut or padded is noticed at once.
@@ -56,25 +56,40 @@ placing file =
 unfoldable pub placed : List ℕ → ℕ
 placed file = first (placing file)
 
+-- The same six checks in words. proofs/Header has that each test means its rule.
+pub record LengthSaid (file : List ℕ) : Type 0 where
+  pub whole-header : headerBytes ≤ length file
+  pub within-limit : length file ≤ fileLimit
+  pub said : wordAt file 20 ≡ length file
+
+abbrev pub CountsInRange : List ℕ → Type 0
+CountsInRange file = (k : ℕ) → k < sections → (1 ≤ count file k) × (count file k ≤ limit k)
+
+pub record HeaderZeros (file : List ℕ) : Type 0 where
+  pub zero-7 : byteAt file 7 ≡ 0
+  pub zero-22 : byteAt file 22 ≡ 0
+  pub zero-23 : byteAt file 23 ≡ 0
+
+abbrev pub SectionsInside : List ℕ → Type 0
+SectionsInside file = (k : ℕ) → k < sections → (headerBytes ≤ offset file k) × (end file k ≤ length file)
+
 -- byte b of the file belongs to section k
 pub record InSection (file : List ℕ) (k b : ℕ) : Type 0 where
   pub from-begin : offset file k ≤ b
   pub before-end : b < end file k
 
--- The same six checks in words. proofs/Header has that `placed` is 0 exactly where they hold.
-pub record Placed (file : List ℕ) : Type 0 where
-  pub whole-header : headerBytes ≤ length file
-  pub within-limit : length file ≤ fileLimit
-  pub length-said : wordAt file 20 ≡ length file
-  pub edition : byteAt file 0 ≡ 1
-  pub counts-some : (k : ℕ) → k < sections → 1 ≤ count file k
-  pub counts-fit : (k : ℕ) → k < sections → count file k ≤ limit k
-  pub zero-7 : byteAt file 7 ≡ 0
-  pub zero-22 : byteAt file 22 ≡ 0
-  pub zero-23 : byteAt file 23 ≡ 0
-  pub behind-header : (k : ℕ) → k < sections → headerBytes ≤ offset file k
-  pub within-file : (k : ℕ) → k < sections → end file k ≤ length file
-  pub no-shared-byte : (i j b : ℕ) → i < sections → j < sections → InSection file i b → InSection file j b → i ≡ j
+abbrev pub NoSharedByte : List ℕ → Type 0
+NoSharedByte file = (i j b : ℕ) → i < sections → j < sections → InSection file i b → InSection file j b → i ≡ j
+
+abbrev pub placingRules : List ℕ → List Rule
+placingRules file =
+    LengthSaid file refused-by 1
+    ∷ (byteAt file 0 ≡ 1) refused-by 2
+    ∷ CountsInRange file refused-by 3
+    ∷ HeaderZeros file refused-by 4
+    ∷ SectionsInside file refused-by 5
+    ∷ NoSharedByte file refused-by 6
+    ∷ []
 
 -- The section call: the bytes of section `kind`, or none where one of 1 to 6 fails or there is no such section. It does not look at
 -- 7 to 12: an engineer who mends a file wants to see the section that is wrong.

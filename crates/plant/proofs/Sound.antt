@@ -1,49 +1,71 @@
--- A plant record passes the checks exactly where it is sound: each computed test is the law in words, both ways. Assumes nothing.
+-- Checks 3 and 7 to 12 on a record: each computed test means its rule in words, so a record is not refused exactly where it is sound. Assumes nothing.
 use mathlib.Core.Path.{_≡_, refl, sym, ap, _∙_}
 use mathlib.Core.Logic.{_↔_}
 use Prim.Native.Nat.{ℕ, _+_, _*_, _≤_, _<_}
 use native.Mathlib.Omega.{arith}
 use native.Mathlib.Decide.{decLt}
+use mathlib.Core.List.{_∷_}
 use mathlib.Core.Bool.{Bool, true, false, not, _&&_, _||_}
 use lib.Dec.{eqb, leb, ltb}
 use lib.ListN.{getD}
 use borrow.Author.Tests.{ltb-true, ltb-false, lt-ltb, le-leb, eqb-true, eqb-false, eq-eqb, ne-eqb, not-true, not-false, le-ltb}
 use Rattle.base.specs.Below.{allBelow, anyBelow, implies}
 use Rattle.base.specs.Bits.{bit, noneFrom}
-use Rattle.base.proofs.Logic.{split, true-false, and-true, and-both, or-cases, or-left, or-right, implies-true, implies-intro}
+use Rattle.base.proofs.Logic.{split, true-false, and-true, and-both, or-cases, or-false, or-left, or-right, implies-true, implies-intro, not-is-false}
+use Rattle.base.specs.Chain.{_⇒_, _refused-by_, Means}
+use Rattle.base.proofs.Meaning.{checked, means-zero}
 use Rattle.base.proofs.Below.{all-at, all-yes, any-no, any-none}
 use Rattle.base.proofs.Bits.{clear-bit, clear-yes, no-bits, zero-bit}
-use Rattle.lattice.specs.Levels.{refusal, Layout}
+use Rattle.lattice.specs.Levels.{refusal, layout, ordered, Layout}
 use Rattle.lattice.specs.Levels as levels
-use Rattle.lattice.specs.Order.{IsLattice}
 use Rattle.lattice.proofs.Verdict.{verdict, refusal-zero}
+use Rattle.lattice.proofs.Laws.{layout-iff, order-iff}
 use Rattle.layout.specs.Header.{countRight}
 use Rattle.plant.specs.declared.Plant.{Plant}
 use Rattle.plant.specs.Plant.{latticeAt, countsOf, requirementOf, groupOf, levelOf, levelsOf, latticeOf, names, rightsOf, needs}
 use Rattle.plant.specs.Right.{rights}
-use Rattle.plant.specs.Checks.{entryBelow, entryClear, countsIn, latticeFails, tankRight, rightIn, taskRightIn, taskRight, numbersRight, twins, noTwins, judged, allJudged, Counts, Numbers, Sound}
+use Rattle.plant.specs.Checks.{entryBelow, entryClear, countsIn, latticeFails, tankRight, rightIn, taskRightIn, taskRight, numbersRight, twins, noTwins, judged, allJudged, recordChecks, plantRefusal, Counts, Layouts, Orders, Lattices, Numbers, recordRules, Sound}
 use Rattle.plant.proofs.Sequence.{count-in}
 use Rattle.plant.proofs.Links.{entry-at}
-
--- the tests of the record
-pub record Passed (p : Plant) : Type 0 where
-  pub counts-in : countsIn p ≡ true
-  pub no-7 : latticeFails p 7 ≡ false
-  pub no-8 : latticeFails p 8 ≡ false
-  pub no-9 : latticeFails p 9 ≡ false
-  pub numbers-right : numbersRight p ≡ true
-  pub no-twins : noTwins p ≡ true
-  pub all-judged : allJudged p ≡ true
 
 module _ (p : Plant) where
   counts-back : Counts p → countsIn p ≡ true
   unfolding countsIn countRight
-  counts-back c = all-yes 6 _ (λ k l. and-both _ _ (le-leb _ _ (c .in-range k l .0)) (le-leb _ _ (c .in-range k l .1)))
+  counts-back c = all-yes 6 _ (λ k l. and-both _ _ (le-leb _ _ (c k l .0)) (le-leb _ _ (c k l .1)))
 
-  -- lattices
-  not-number : (k l : ℕ) → latticeFails p k ≡ false → l < p .lattices → refusal (latticeAt p l) ≡ k → ⊥
+  -- lattices: no lattice has the number k
+  none-is : (k : ℕ) → latticeFails p k ≡ false → (l : ℕ) → l < p .lattices → refusal (latticeAt p l) ≡ k → ⊥
   unfolding latticeFails
-  not-number k l e h q = true-false (sym (eq-eqb _ _ q) ∙ any-no (p .lattices) (λ (i : ℕ). eqb (refusal (latticeAt p i)) k) e l h)
+  none-is k e l h q = true-false (sym (eq-eqb _ _ q) ∙ any-no (p .lattices) (λ (i : ℕ). eqb (refusal (latticeAt p i)) k) e l h)
+
+  none-back : (k : ℕ) → ((l : ℕ) → l < p .lattices → refusal (latticeAt p l) ≡ k → ⊥) → latticeFails p k ≡ false
+  unfolding latticeFails
+  none-back k f = any-none (p .lattices) _ (λ l h. ne-eqb _ _ (f l h))
+
+  layouts-words : latticeFails p 7 ≡ false → Layouts p
+  layouts-words e l h =
+      split (layout (latticeAt p l)) (layout-iff (latticeAt p l) .0)
+      (λ n. absurd (none-is 7 e l h (verdict (latticeAt p l) .seven .1 (λ y. true-false (sym (layout-iff (latticeAt p l) .1 y) ∙ n)))))
+
+  layouts-back : Layouts p → latticeFails p 7 ≡ false
+  layouts-back w = none-back 7 (λ l h q. verdict (latticeAt p l) .seven .0 q (w l h))
+
+  orders-words : Layouts p → latticeFails p 8 ≡ false → Orders p
+  orders-words y e l h =
+      let a = latticeAt p l in
+      split (ordered (a .n) (levels.under a)) (order-iff (a .n) (levels.under a) .0)
+      (λ n. absurd (none-is 8 e l h (verdict a .eight .1 (y l h, λ o. true-false (sym (order-iff (a .n) (levels.under a) .1 o) ∙ n)))))
+
+  orders-back : Orders p → latticeFails p 8 ≡ false
+  orders-back w = none-back 8 (λ l h q. verdict (latticeAt p l) .eight .0 q .1 (w l h))
+
+  lattices-words : Layouts p → Orders p → latticeFails p 9 ≡ false → Lattices p
+  lattices-words y o e l h =
+      let v = verdict (latticeAt p l) in
+      v .accepted .0 (refusal-zero (latticeAt p l) (λ q. v .seven .0 q (y l h)) (λ q. v .eight .0 q .1 (o l h)) (none-is 9 e l h)) .1
+
+  lattices-back : Lattices p → latticeFails p 9 ≡ false
+  lattices-back w = none-back 9 (λ l h q. verdict (latticeAt p l) .nine .0 q .2 (w l h))
 
   -- numbers
   record Tests : Type 0 where
@@ -144,30 +166,69 @@ module _ (p : Plant) where
       (λ e. absurd (eqb-false (rightsOf p t g) 0 (not-true _ n)
       (no-bits (rightsOf p t g) (λ r. split (bit (rightsOf p t g) r) (λ b. absurd (true-false (sym (f t g r l m b) ∙ e))) (λ b. b))))))))
 
-  pub sound : Passed p → Sound p
-  sound s = record {
-    counts = record { in-range = count-in p (s .counts-in) };
-    layouts = λ l h. verdict (latticeAt p l) .accepted .0 (zero l h) .0;
-    lattices = λ l h. verdict (latticeAt p l) .accepted .0 (zero l h) .1;
-    numbers = numbers-words (s .numbers-right);
-    no-twins = twins-words (s .no-twins);
-    all-judged = judged-words (s .all-judged);
-  }
-    where
-      zero : (l : ℕ) → l < p .lattices → refusal (latticeAt p l) ≡ 0
-      zero l h = refusal-zero (latticeAt p l) (not-number 7 l (s .no-7) h) (not-number 8 l (s .no-8) h) (not-number 9 l (s .no-9) h)
+  -- checks 7 to 12: each test means its rule, with the tests of the zero bytes and what they mean
+  module _ (z7 z10 : Bool) {Z7 Z10 : Type 0} (m7 : (z7 ≡ true) ↔ Z7) (m10 : (z10 ≡ true) ↔ Z10) where
+    seven : (not z7 || latticeFails p 7 ≡ false) ↔ (Z7 × Layouts p)
+    seven = (
+      (λ e. let q = or-false (not z7) (latticeFails p 7) e in (m7 .0 (not-false z7 (q .0)), layouts-words (q .1))),
+      (λ w. rw (m7 .1 (w .0)) (layouts-back (w .1))),
+    )
 
-  no-number : Sound p → (k : ℕ) → eqb 0 k ≡ false → latticeFails p k ≡ false
-  unfolding latticeFails
-  no-number s k e = any-none (p .lattices) _ (λ l h. ap (λ (x : ℕ). eqb x k) (verdict (latticeAt p l) .accepted .1 (s .layouts l h, s .lattices l h)) ∙ e)
+    ten : (not z10 || not (numbersRight p) ≡ false) ↔ (Z10 × Numbers p)
+    ten = (
+      (λ e. let q = or-false (not z10) (not (numbersRight p)) e in (m10 .0 (not-false z10 (q .0)), numbers-words (not-false _ (q .1)))),
+      (λ w. rw (m10 .1 (w .0)) (not-is-false _ (numbers-back (w .1)))),
+    )
 
-  pub passes : Sound p → Passed p
-  passes s = record {
-    counts-in = counts-back (s .counts);
-    no-7 = no-number s 7 refl;
-    no-8 = no-number s 8 refl;
-    no-9 = no-number s 9 refl;
-    numbers-right = numbers-back (s .numbers);
-    no-twins = twins-back (s .no-twins);
-    all-judged = judged-back (s .all-judged);
-  }
+    pub record-means : Means (recordChecks z7 z10 p) (recordRules Z7 Z10 p)
+    record-means = (
+      seven,
+      (
+        refl,
+        λ y. (
+          (orders-words (y .1), orders-back),
+          (
+            refl,
+            λ o. (
+              (lattices-words (y .1) o, lattices-back),
+              (
+                refl,
+                λ _. (
+                  ten,
+                  (
+                    refl,
+                    λ _. (
+                      checked (noTwins p) twins-words twins-back,
+                      (
+                        refl,
+                        λ _.
+                            (checked (allJudged p) judged-words judged-back, (refl, λ _. tt)),
+                      ),
+                    ),
+                  ),
+                ),
+              ),
+            ),
+          ),
+        ),
+      ),
+    )
+
+-- A record is not refused exactly where it is sound.
+pub sound-law : (p : Plant) → (plantRefusal true true p ≡ 0) ↔ Sound p
+unfolding plantRefusal
+sound-law p =
+    let law = means-zero (not (countsIn p) ⇒ 3 ∷ recordChecks true true p) (Counts p refused-by 3 ∷ recordRules Unit Unit p)
+    (refl, (refl, (refl, (refl, (refl, (refl, (refl, tt)))))))
+    (checked (countsIn p) (count-in p) (counts-back p), (refl, λ _. record-means p true true (((λ _. tt), (λ _. refl))) ((λ _. tt), (λ _. refl)))) in (
+      (λ e. let k = law .0 e in record {
+        counts = k .0;
+        layouts = k .1 .0 .1;
+        orders = k .1 .1 .0;
+        lattices = k .1 .1 .1 .0;
+        numbers = k .1 .1 .1 .1 .0 .1;
+        no-twins = k .1 .1 .1 .1 .1 .0;
+        all-judged = k .1 .1 .1 .1 .1 .1 .0;
+      }),
+      (λ s. law .1 (s .counts, ((tt, s .layouts), (s .orders, (s .lattices, ((tt, s .numbers), (s .no-twins, (s .all-judged, tt)))))))),
+    )

@@ -8,14 +8,14 @@ use lib.ListN.{getD, replicate}
 use Rattle.base.specs.Fill.{fill}
 use Rattle.base.specs.Below.{allBelow, anyBelow, implies}
 use Rattle.base.specs.Bits.{bit, noneFrom}
-use Rattle.base.specs.Chain.{Test, _⇒_, first}
+use Rattle.base.specs.Chain.{Test, _⇒_, first, Rule, _refused-by_}
 use Rattle.lattice.specs.Levels.{refusal, Layout}
 use Rattle.lattice.specs.Levels as levels
-use Rattle.lattice.specs.Order.{IsLattice}
+use Rattle.lattice.specs.Order.{Order, IsLattice}
 use Rattle.layout.specs.Header.{countRight}
 use Rattle.layout.specs.Layout.{limit}
 use Rattle.plant.specs.declared.Plant.{Plant}
-use Rattle.plant.specs.Plant.{latticeFrom, latticeAt, latticeOf, levelsOf, requirementOf, groupOf, levelOf, names, rightsOf, needs, sameLevel, countsOf}
+use Rattle.plant.specs.Plant.{latticeFrom, latticeAt, latticeOf, levelsOf, requirementOf, groupOf, levelOf, names, rightsOf, grants, needs, mayRun, sameLevel, countsOf}
 use Rattle.plant.specs.Right.{rights}
 
 -- The counts are within the record's room.
@@ -135,24 +135,53 @@ itemsRefusal p = first (itemChecks true p)
 unfoldable pub plantRefusal : Bool → Bool → Plant → ℕ
 plantRefusal z7 z10 p = first (not (countsIn p) ⇒ 3 ∷ recordChecks z7 z10 p)
 
--- The same in words, one field for each check. proofs/Sound has that a record is not refused exactly where they hold.
-pub record Counts (p : Plant) : Type 0 where
-  pub in-range : (k : ℕ) → k < 6 → (1 ≤ getD (countsOf p) k 0) × (getD (countsOf p) k 0 ≤ limit k)
+-- The same in words. proofs/Sound has that each test means its rule.
+module _ (p : Plant) where
+  abbrev pub Counts : Type 0
+  Counts = (k : ℕ) → k < 6 → (1 ≤ getD (countsOf p) k 0) × (getD (countsOf p) k 0 ≤ limit k)
 
-pub record Numbers (p : Plant) : Type 0 where
-  pub lattice-in : (d : ℕ) → d < p .requirements → latticeOf p d < p .lattices
-  pub requirement-in : (g : ℕ) → g < p .groups → requirementOf p g < p .requirements
-  pub group-in : (o : ℕ) → o < p .tanks → groupOf p o < p .groups
-  pub level-in : (o : ℕ) → o < p .tanks → levelOf p o < levelsOf p (requirementOf p (groupOf p o))
-  pub names-in : (t d : ℕ) → t < p .tasks → names p t d ≡ true → d < p .requirements
-  pub rights-known : (t g r : ℕ) → t < p .tasks → g < 8 → bit (rightsOf p t g) r ≡ true → r < rights
-  pub rights-in : (t g : ℕ) → t < p .tasks → g < 8 → p .groups ≤ g → rightsOf p t g ≡ 0
-  pub may-in : (s t : ℕ) → s < p .skids → bit (getD (p .may) s 0) t ≡ true → t < p .tasks
+  abbrev pub Layouts : Type 0
+  Layouts = (l : ℕ) → l < p .lattices → Layout (latticeAt p l)
 
+  abbrev pub Orders : Type 0
+  Orders = (l : ℕ) → l < p .lattices → Order (latticeAt p l .n) (levels.under (latticeAt p l))
+
+  abbrev pub Lattices : Type 0
+  Lattices = (l : ℕ) → l < p .lattices → IsLattice (latticeAt p l .n) (levels.under (latticeAt p l))
+
+  pub record Numbers : Type 0 where
+    pub lattice-in : (d : ℕ) → d < p .requirements → latticeOf p d < p .lattices
+    pub requirement-in : (g : ℕ) → g < p .groups → requirementOf p g < p .requirements
+    pub group-in : (o : ℕ) → o < p .tanks → groupOf p o < p .groups
+    pub level-in : (o : ℕ) → o < p .tanks → levelOf p o < levelsOf p (requirementOf p (groupOf p o))
+    pub names-in : (t d : ℕ) → t < p .tasks → names p t d ≡ true → d < p .requirements
+    pub rights-known : (t g r : ℕ) → t < p .tasks → g < 8 → grants p t r g ≡ true → r < rights
+    pub rights-in : (t g : ℕ) → t < p .tasks → g < 8 → p .groups ≤ g → rightsOf p t g ≡ 0
+    pub may-in : (s t : ℕ) → s < p .skids → mayRun p s t ≡ true → t < p .tasks
+
+  abbrev pub NoTwins : Type 0
+  NoTwins = (a b : ℕ) → a < p .tanks → b < p .tanks → groupOf p a ≡ groupOf p b → levelOf p a ≡ levelOf p b → a ≡ b
+
+  abbrev pub AllJudged : Type 0
+  AllJudged = (t g r : ℕ) → t < p .tasks → g < p .groups → grants p t r g ≡ true → names p t (requirementOf p g) ≡ true
+
+-- Z7 and Z10 say that the bytes of the file that are always zero are
+abbrev pub recordRules : Type 0 → Type 0 → Plant → List Rule
+recordRules Z7 Z10 p =
+    (Z7 × Layouts p) refused-by 7
+    ∷ Orders p refused-by 8
+    ∷ Lattices p refused-by 9
+    ∷ (Z10 × Numbers p) refused-by 10
+    ∷ NoTwins p refused-by 11
+    ∷ AllJudged p refused-by 12
+    ∷ []
+
+-- A sound plant record: what test 20 asks of it, one field for each check.
 pub record Sound (p : Plant) : Type 0 where
   pub counts : Counts p
-  pub layouts : (l : ℕ) → l < p .lattices → Layout (latticeAt p l)
-  pub lattices : (l : ℕ) → l < p .lattices → IsLattice (latticeAt p l .n) (levels.under (latticeAt p l))
+  pub layouts : Layouts p
+  pub orders : Orders p
+  pub lattices : Lattices p
   pub numbers : Numbers p
-  pub no-twins : (a b : ℕ) → a < p .tanks → b < p .tanks → groupOf p a ≡ groupOf p b → levelOf p a ≡ levelOf p b → a ≡ b
-  pub all-judged : (t g r : ℕ) → t < p .tasks → g < p .groups → bit (rightsOf p t g) r ≡ true → names p t (requirementOf p g) ≡ true
+  pub no-twins : NoTwins p
+  pub all-judged : AllJudged p

@@ -1,5 +1,4 @@
--- Opening is what its words say: a file is accepted exactly where it is admitted, its plant holds its records, and a refusal has the number of the
--- first check that fails. Assumes nothing.
+-- Opening is what its words say: the answer is 0 exactly where the twelve rules are kept, and else the number of the first that is broken. Assumes nothing.
 use mathlib.Core.Path.{_≡_, refl, sym, ap, subst, _∙_}
 use mathlib.Core.Logic.{_↔_}
 use Prim.Native.Nat.{ℕ, _+_, _*_, _≤_, _<_}
@@ -9,65 +8,26 @@ use mathlib.Core.Bool.{Bool, true, false, not, cond, _&&_, _||_}
 use mathlib.Core.List.{List}
 use lib.Dec.{eqb}
 use lib.ListN.{getD, replicate}
+use borrow.Author.Tests.{eqb-true, eq-eqb, ne-eqb}
 use Rattle.base.specs.Fill.{fill}
-use borrow.Author.Tests.{eqb-true, eqb-false, eq-eqb, not-false}
-use Rattle.base.specs.Below.{allBelow}
-use Rattle.base.specs.Chain.{first, Decides}
-use Rattle.base.proofs.Logic.{split, and-true, and-both, or-false, not-is-false}
+use Rattle.base.specs.Chain.{Keeps, Breaks, Means}
+use Rattle.base.proofs.Logic.{and-true, and-both}
 use Rattle.base.proofs.Below.{all-at, all-yes}
-use Rattle.base.proofs.Chain.{clear, accepts, decides, decided}
-use Rattle.layout.specs.Layout.{byteAt, wordAt, width, count, part, place, zeroAt, zerosAt}
-use Rattle.layout.specs.Header.{placed, Placed}
-use Rattle.layout.proofs.Header.{placed-words, words-placed, passed}
+use Rattle.base.proofs.Meaning.{means-zero, means-number, means-append}
+use Rattle.layout.specs.Layout.{byteAt, wordAt, width, limit, count, part, place, zeroAt, zerosAt}
+use Rattle.layout.specs.Header.{placing, placingRules, CountsInRange}
+use Rattle.layout.proofs.Header.{placing-means, counts-back}
 use Rattle.layout.proofs.Places.{place-one, cell-one, cell-many}
 use Rattle.plant.specs.declared.Plant.{Plant}
-use Rattle.plant.specs.Checks.{countsIn, latticeFails, recordChecks, numbersRight, noTwins, allJudged, Sound}
-use Rattle.plant.proofs.Sound.{Passed, sound, passes}
+use Rattle.plant.specs.Plant.{noPlant}
+use Rattle.plant.specs.Checks.{recordChecks, recordRules, Sound}
+use Rattle.plant.proofs.Sequence.{count-in}
+use Rattle.plant.proofs.Sound.{record-means}
 use Rattle.reader.specs.Reading.{plantOf, zeros, latticeZeros, otherZeros, opening, openingRefusal, readingOf}
-use Rattle.reader.specs.Admitted.{Holds, Zeros, Admitted, Opening}
-use Rattle.reader.proofs.Sequence.{counts-same, chained}
+use Rattle.reader.proofs.Sequence.{counts-same}
+use Rattle.reader.specs.Admitted.{Holds, ZeroByte, OtherZeros, rules, Admitted, Opening}
 
 module _ (file : List ℕ) where
-  -- the tests behind an accepted file
-  record Tests : Type 0 where
-    placed-zero : placed file ≡ 0
-    zeros-7 : latticeZeros file ≡ true
-    zeros-10 : otherZeros file ≡ true
-    record-passed : Passed (plantOf file)
-
-  early : openingRefusal file ≡ 0 → placed file ≡ 0
-  early e = split (eqb (placed file) 0) (λ h. eqb-true _ _ h) (λ h. sym (chained file ∙ rw h) ∙ e)
-
-  late : openingRefusal file ≡ 0 → first (recordChecks (latticeZeros file) (otherZeros file) (plantOf file)) ≡ 0
-  late e = sym (chained file ∙ rw (early e)) ∙ e
-
-  tests : openingRefusal file ≡ 0 → Tests
-  tests e =
-      let k = clear (recordChecks (latticeZeros file) (otherZeros file) (plantOf file)) (refl, (refl, (refl, (refl, (refl, (refl, tt)))))) (late e) in
-      let a = or-false (not (latticeZeros file)) (latticeFails (plantOf file) 7) (k .0) in
-      let b = or-false (not (otherZeros file)) (not (numbersRight (plantOf file))) (k .1 .1 .1 .0) in
-      record {
-        placed-zero = early e;
-        zeros-7 = not-false _ (a .0);
-        zeros-10 = not-false _ (b .0);
-        record-passed = record {
-          counts-in = counts-same file ∙ passed file (early e) .counts-right;
-          no-7 = a .1;
-          no-8 = k .1 .0;
-          no-9 = k .1 .1 .0;
-          numbers-right = not-false _ (b .1);
-          no-twins = not-false _ (k .1 .1 .1 .1 .0);
-          all-judged = not-false _ (k .1 .1 .1 .1 .1 .0);
-        };
-      }
-
-  untests : Tests → openingRefusal file ≡ 0
-  untests t =
-      let p = t .record-passed in
-      chained file ∙ rw (t .placed-zero)
-      (accepts (recordChecks (latticeZeros file) (otherZeros file) (plantOf file))
-      (rw (t .zeros-7) (p .no-7), (p .no-8, (p .no-9, (rw (t .zeros-10) (not-is-false _ (p .numbers-right)), (not-is-false _ (p .no-twins), (not-is-false _ (p .all-judged), tt)))))))
-
   -- the zero bytes of a section
   zero-words : (k : ℕ) → zeros file k 1 ≡ true → (i : ℕ) → i < count file k → byteAt (part file k) (i * width k + 1) ≡ 0
   unfolding zerosAt
@@ -77,38 +37,83 @@ module _ (file : List ℕ) where
   unfolding zerosAt
   zero-back k f = all-yes (count file k) (zeroAt (part file k) (width k) 1) (λ i l. eq-eqb _ _ (ap (byteAt (part file k)) (place-one (width k) 1 1 i) ∙ f i l))
 
-  zeros-words : Tests → Zeros file
-  unfolding latticeZeros otherZeros
-  zeros-words t =
-      let a = and-true (zeros file 1 1) (zeros file 2 1 && zeros file 4 1) (t .zeros-10) in
-      let b = and-true (zeros file 2 1) (zeros file 4 1) (a .1) in
+  other-zeros : (otherZeros file ≡ true) ↔ OtherZeros file
+  unfolding otherZeros
+  other-zeros = (
+    (λ e.
+        let a = and-true (zeros file 1 1) (zeros file 2 1 && zeros file 4 1) e in
+        let b = and-true (zeros file 2 1) (zeros file 4 1) (a .1) in
+        (zero-words 1 (a .0), (zero-words 2 (b .0), zero-words 4 (b .1)))),
+    (λ w. and-both _ _ (zero-back 1 (w .0)) (and-both _ _ (zero-back 2 (w .1 .0)) (zero-back 4 (w .1 .1)))),
+  )
+
+  lattice-zeros : (latticeZeros file ≡ true) ↔ ZeroByte file 0
+  unfolding latticeZeros
+  lattice-zeros = (zero-words 0, zero-back 0)
+
+  -- each of the twelve tests means its rule
+  opening-means : Means (opening file) (rules file)
+  opening-means =
+      means-append (placing file) (recordChecks (latticeZeros file) (otherZeros file) (plantOf file)) (placingRules file) (recordRules (ZeroByte file 0) (OtherZeros file) (plantOf file))
+      (placing-means file) (λ _. record-means (plantOf file) (latticeZeros file) (otherZeros file) lattice-zeros other-zeros)
+
+  law : (openingRefusal file ≡ 0) ↔ Keeps (rules file)
+  unfolding openingRefusal
+  law =
+      means-zero (opening file) (rules file)
+      (refl, (refl, (refl, (refl, (refl, (refl, (refl, (refl, (refl, (refl, (refl, (refl, tt)))))))))))) opening-means
+
+  number-law : (k : ℕ) → (_≡_ {A = ℕ} 0 k → ⊥) → (openingRefusal file ≡ k) ↔ Breaks (rules file) k
+  unfolding openingRefusal
+  number-law k z = means-number (opening file) (rules file) k z opening-means
+
+  admitted : Keeps (rules file) → Admitted file
+  admitted k =
+      let r = k .1 .1 .1 .1 .1 .1 in
       record {
-        lattice-zero = zero-words 0 (t .zeros-7);
-        requirement-zero = zero-words 1 (a .0);
-        group-zero = zero-words 2 (b .0);
-        task-zero = zero-words 4 (b .1);
+        length-said = k .0;
+        edition = k .1 .0;
+        counts = k .1 .1 .0;
+        header-zeros = k .1 .1 .1 .0;
+        inside = k .1 .1 .1 .1 .0;
+        no-shared-byte = k .1 .1 .1 .1 .1 .0;
+        layouts = r .0;
+        orders = r .1 .0;
+        lattices = r .1 .1 .0;
+        numbers = r .1 .1 .1 .0;
+        no-twins = r .1 .1 .1 .1 .0;
+        all-judged = r .1 .1 .1 .1 .1 .0;
       }
 
-  admitted : openingRefusal file ≡ 0 → Admitted file
-  admitted e = let t = tests e in record { placed = placed-words file (t .placed-zero); zeros = zeros-words t; sound = sound (plantOf file) (t .record-passed) }
-
-  accepted : Admitted file → openingRefusal file ≡ 0
-  unfolding latticeZeros otherZeros
-  accepted a = untests (record {
-    placed-zero = words-placed file (a .placed);
-    zeros-7 = zero-back 0 (a .zeros .lattice-zero);
-    zeros-10 = and-both _ _ (zero-back 1 (a .zeros .requirement-zero)) (and-both _ _ (zero-back 2 (a .zeros .group-zero)) (zero-back 4 (a .zeros .task-zero)));
-    record-passed = passes (plantOf file) (a .sound);
-  })
+  kept : Admitted file → Keeps (rules file)
+  kept a = (
+    a .length-said,
+    (
+      a .edition,
+      (
+        a .counts,
+        (
+          a .header-zeros,
+          (
+            a .inside,
+            (
+              a .no-shared-byte,
+              (a .layouts, (a .orders, (a .lattices, (a .numbers, (a .no-twins, (a .all-judged, tt)))))),
+            ),
+          ),
+        ),
+      ),
+    ),
+  )
 
   -- byte 0 of a record, or a word there
   first-cell : (f : ℕ → ℕ) (w e n room : ℕ) → n ≤ room → (k : ℕ) → k < n → getD (fill (λ (i : ℕ). f (place w 0 1 e i)) (replicate room 0) (n * 1)) k 0 ≡ f (k * w)
   first-cell f w e n room b k l = cell-one f w 0 e n room b k l ∙ ap f (add-zero (k * w))
 
   -- the plant's fields, where each count is within its limit
-  holds : Placed file → Holds file (plantOf file)
-  holds P =
-      let fit = P .counts-fit in
+  holds : CountsInRange file → Holds file (plantOf file)
+  holds c =
+      let fit : (k : ℕ) → k < 6 → count file k ≤ limit k = λ k l. c k l .1 in
       record {
         lattices = refl;
         requirements = refl;
@@ -127,15 +132,31 @@ module _ (file : List ℕ) where
         may = first-cell (wordAt (part file 5)) 2 2 (count file 5) 8 (fit 5 (omega arith));
       }
 
+  sound : Admitted file → Sound (plantOf file)
+  sound a = record {
+    counts = count-in (plantOf file) (counts-same file ∙ counts-back file (a .counts));
+    layouts = a .layouts .1;
+    orders = a .orders;
+    lattices = a .lattices;
+    numbers = a .numbers .1;
+    no-twins = a .no-twins;
+    all-judged = a .all-judged;
+  }
+
   given : openingRefusal file ≡ 0 → readingOf file .plant ≡ plantOf file
   unfolding readingOf
   given e = rw e
 
+  accepted : Admitted file → plantOf file ≡ readingOf file .plant
+  accepted a = sym (given (law .1 (kept a)))
+
 -- Demands 1 and 2 on the reader: `read` returns `readingOf` of its bytes, and this is what it says, for any bytes.
 pub opens : (file : List ℕ) → Opening file
-unfolding readingOf openingRefusal
+unfolding readingOf
 opens file = record {
-  accepts = (admitted file, accepted file);
-  holds = λ a. subst (λ (p : Plant). Holds file p) (sym (given file (accepted file a))) (holds file (a .placed));
-  decides = λ k n. (decides (opening file) k n, decided (opening file) k);
+  accepts = ((λ e. admitted file (law file .0 e)), (λ a. law file .1 (kept file a)));
+  refuses = number-law file;
+  holds = λ a. subst (λ (p : Plant). Holds file p) (accepted file a) (holds file (a .counts));
+  sound = λ a. subst (λ (p : Plant). Sound p) (accepted file a) (sound file a);
+  empty = λ n. rw (ne-eqb (openingRefusal file) 0 n);
 }

@@ -9,7 +9,7 @@ use Rattle.base.specs.Below.{allBelow}
 use Rattle.base.specs.Chain.{first}
 use Rattle.base.proofs.Chain.{first-append}
 use Rattle.layout.specs.Header.{placing, placed, countsRight}
-use Rattle.layout.proofs.Header.{passed}
+use Rattle.layout.proofs.Header.{counts-back, counts-in-range}
 use Rattle.plant.specs.declared.Plant.{Plant}
 use Rattle.plant.specs.Plant.{noPlant}
 use Rattle.plant.specs.Checks.{countsIn, recordChecks, plantRefusal}
@@ -22,14 +22,14 @@ module _ (file : List ℕ) where
   unfolding countsIn countsRight allBelow
   counts-same = refl
 
-  pub chained : openingRefusal file ≡ cond (eqb (placed file) 0) (first (recordChecks (latticeZeros file) (otherZeros file) (plantOf file))) (placed file)
+  chained : openingRefusal file ≡ cond (eqb (placed file) 0) (first (recordChecks (latticeZeros file) (otherZeros file) (plantOf file))) (placed file)
   unfolding openingRefusal placed
   chained = first-append (placing file) (recordChecks (latticeZeros file) (otherZeros file) (plantOf file)) (refl, (refl, (refl, (refl, (refl, (refl, tt))))))
 
   -- a file that passes 1 to 6 has the number of its record
   record-number : placed file ≡ 0 → openingRefusal file ≡ plantRefusal (latticeZeros file) (otherZeros file) (plantOf file)
   unfolding plantRefusal
-  record-number e = chained ∙ rw (e, counts-same ∙ passed file e .counts-right)
+  record-number e = chained ∙ rw (e, counts-same ∙ counts-back file (counts-in-range file e))
 
   -- any other number refuses, and 0 gives the plant
   refuse : {n : ℕ} → n ≡ openingRefusal file → (n ≡ 0 → ⊥) → refusedWith n ≡ readingOf file

@@ -2,14 +2,15 @@
 use mathlib.Core.Path.{_≡_}
 use mathlib.Core.Logic.{_↔_}
 use Prim.Native.Nat.{ℕ, _+_, _*_, _<_}
-use mathlib.Core.List.{List}
+use mathlib.Core.List.{List, _++_}
 use lib.ListN.{getD}
-use Rattle.base.specs.Chain.{Decides}
-use Rattle.layout.specs.Layout.{byteAt, wordAt, count, part}
-use Rattle.layout.specs.Header.{Placed}
+use Rattle.base.specs.Chain.{Rule, Breaks}
+use Rattle.layout.specs.Layout.{byteAt, wordAt, width, count, part}
+use Rattle.layout.specs.Header.{LengthSaid, CountsInRange, HeaderZeros, SectionsInside, NoSharedByte, placingRules}
 use Rattle.plant.specs.declared.Plant.{Plant}
-use Rattle.plant.specs.Checks.{Sound}
-use Rattle.reader.specs.Reading.{plantOf, opening, openingRefusal, readingOf}
+use Rattle.plant.specs.Plant.{noPlant}
+use Rattle.plant.specs.Checks.{Layouts, Orders, Lattices, Numbers, NoTwins, AllJudged, recordRules, Sound}
+use Rattle.reader.specs.Reading.{plantOf, readingOf}
 
 -- The plant has the file's counts, and within them its items are the file's records, read from the part that their section fills.
 pub record Holds (file : List ℕ) (p : Plant) : Type 0 where
@@ -30,24 +31,39 @@ pub record Holds (file : List ℕ) (p : Plant) : Type 0 where
   pub may : (s : ℕ) → s < count file 5 → getD (p .may) s 0 ≡ wordAt (part file 5) (s * 2)
 
 -- The records' bytes that are always zero: byte 1 of each lattice, requirement, group and task.
-pub record Zeros (file : List ℕ) : Type 0 where
-  pub lattice-zero : (l : ℕ) → l < count file 0 → byteAt (part file 0) (l * 34 + 1) ≡ 0
-  pub requirement-zero : (d : ℕ) → d < count file 1 → byteAt (part file 1) (d * 2 + 1) ≡ 0
-  pub group-zero : (g : ℕ) → g < count file 2 → byteAt (part file 2) (g * 2 + 1) ≡ 0
-  pub task-zero : (t : ℕ) → t < count file 4 → byteAt (part file 4) (t * 10 + 1) ≡ 0
+abbrev pub ZeroByte : List ℕ → ℕ → Type 0
+ZeroByte file k = (i : ℕ) → i < count file k → byteAt (part file k) (i * width k + 1) ≡ 0
 
--- A file that opening admits: checks 1 to 6 (Placed), the zero bytes of 7 and 10 (Zeros), and of the plant that its records make the
--- layout of lattices (7), the lattice laws (8, 9), and 10, 11 and 12 (Sound).
+abbrev pub OtherZeros : List ℕ → Type 0
+OtherZeros file = ZeroByte file 1 × (ZeroByte file 2 × ZeroByte file 4)
+
+-- Opening's twelve rules in words, in their order. 1 to 6 are on the header, 7 to 12 on the records, read within the counts.
+abbrev pub rules : List ℕ → List Rule
+rules file = placingRules file ++ recordRules (ZeroByte file 0) (OtherZeros file) (plantOf file)
+
+-- A file that opening admits, one field for each rule.
 pub record Admitted (file : List ℕ) : Type 0 where
-  pub placed : Placed file
-  pub zeros : Zeros file
-  pub sound : Sound (plantOf file)
+  pub length-said : LengthSaid file
+  pub edition : byteAt file 0 ≡ 1
+  pub counts : CountsInRange file
+  pub header-zeros : HeaderZeros file
+  pub inside : SectionsInside file
+  pub no-shared-byte : NoSharedByte file
+  pub layouts : ZeroByte file 0 × Layouts (plantOf file)
+  pub orders : Orders (plantOf file)
+  pub lattices : Lattices (plantOf file)
+  pub numbers : OtherZeros file × Numbers (plantOf file)
+  pub no-twins : NoTwins (plantOf file)
+  pub all-judged : AllJudged (plantOf file)
 
 -- What demands 1 and 2 say of the reader, for any bytes.
 pub record Opening (file : List ℕ) : Type 0 where
   -- the number is 0 exactly for an admitted file
   pub accepts : (readingOf file .answer ≡ 0) ↔ Admitted file
-  -- the plant then holds the file's records
+  -- another number k is that of a broken rule with all rules before it kept, and of no other
+  pub refuses : (k : ℕ) → (_≡_ {A = ℕ} 0 k → ⊥) → (readingOf file .answer ≡ k) ↔ Breaks (rules file) k
+  -- an admitted file's plant holds its records and is sound
   pub holds : Admitted file → Holds file (readingOf file .plant)
-  -- another number is that of the first check that fails, and of no later one
-  pub decides : (k : ℕ) → (_≡_ {A = ℕ} 0 k → ⊥) → (readingOf file .answer ≡ k) ↔ Decides (opening file) k
+  pub sound : Admitted file → Sound (readingOf file .plant)
+  -- a refused file's plant is zeros
+  pub empty : (readingOf file .answer ≡ 0 → ⊥) → readingOf file .plant ≡ noPlant

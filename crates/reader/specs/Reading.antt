@@ -7,10 +7,10 @@ use lib.Dec.{eqb}
 use lib.ListN.{getD, replicate}
 use Rattle.base.specs.Chain.{Test, first}
 use Rattle.layout.specs.Layout.{byteAt, wordAt, width, count, part, bytesOf, wordsOf, zerosAt}
-use Rattle.layout.specs.Header.{placing, Placed}
+use Rattle.layout.specs.Header.{placing}
 use Rattle.plant.specs.declared.Plant.{Plant}
 use Rattle.plant.specs.Plant.{noPlant}
-use Rattle.plant.specs.Checks.{recordChecks, Sound}
+use Rattle.plant.specs.Checks.{recordChecks}
 use Rattle.reader.specs.declared.Reading.{Reading}
 
 -- The cells of section k: `run` of them in each record, from its byte `from` on, in a list of `room` entries. Past the counts it has zeros.
