@@ -11,3 +11,4 @@ pub mod Last
 pub mod Gather
 pub mod Shared
 pub mod Meaning
+pub mod Maximal

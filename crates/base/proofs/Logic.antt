@@ -2,7 +2,7 @@
 use mathlib.Core.Path.{_≡_, refl, sym, ap, _∙_}
 use Prim.Native.Nat.{ℕ}
 use native.Mathlib.Omega.{arith}
-use mathlib.Core.Bool.{Bool, true, false, not, _&&_, _||_}
+use mathlib.Core.Bool.{Bool, true, false, cond, not, _&&_, _||_}
 use Rattle.base.specs.Below.{implies}
 
 -- either value of a test, with the equation
@@ -26,6 +26,9 @@ and-true false b e = (cc, cc)
 pub and-both : (a b : Bool) → a ≡ true → b ≡ true → a && b ≡ true
 and-both a b p q = rw (p, q)
 
+pub and-intro : {a b : Bool} → a ≡ true → b ≡ true → a && b ≡ true
+and-intro {a} {b} p q = rw (p, q)
+
 pub or-false : (a b : Bool) → a || b ≡ false → (a ≡ false) × (b ≡ false)
 or-false true b e = (cc, cc)
 or-false false b e = (refl, e)
@@ -48,6 +51,11 @@ implies-true false b e h = cc
 pub implies-intro : (a b : Bool) → (a ≡ true → b ≡ true) → implies a b ≡ true
 implies-intro true b f = f refl
 implies-intro false b f = refl
+
+-- a choice by a test: equal where both arms are, each under the test's value
+pub cond-cong {ℓ} : {X : Type ℓ} (b : Bool) {x x′ y y′ : X} → (b ≡ true → x ≡ x′) → (b ≡ false → y ≡ y′) → cond b x y ≡ cond b x′ y′
+cond-cong true f g = f refl
+cond-cong false f g = g refl
 
 pub not-is-false : (a : Bool) → a ≡ true → not a ≡ false
 not-is-false a e = rw e

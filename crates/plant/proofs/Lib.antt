@@ -1,3 +1,4 @@
 pub mod Links
 pub mod Sequence
 pub mod Sound
+pub mod Valid

@@ -1,0 +1,3 @@
+pub mod Tanks
+pub mod Choice
+pub mod Search
