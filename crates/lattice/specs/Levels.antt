@@ -8,7 +8,7 @@ use lib.Dec.{eqb, leb}
 use lib.ListN.{getD}
 use Rattle.base.specs.Below.{allBelow, anyBelow, firstBelow, implies}
 use Rattle.base.specs.Bits.{bit, noneFrom}
-use Rattle.base.specs.Chain.{_⇒_, first}
+use Rattle.base.specs.Chain.{_gives_, first}
 use Rattle.lattice.specs.declared.Lattice.{Lattice}
 use Rattle.lattice.specs.Order.{Order, Joins, IsLattice, turned}
 
@@ -73,7 +73,7 @@ complete l = joined (l .n) (under l) && joined (l .n) (turned (under l))
 
 -- the number that refuses a lattice record, or 0
 unfoldable pub refusal : Lattice → ℕ
-refusal l = first (not (layout l) ⇒ 7 ∷ not (ordered (l .n) (under l)) ⇒ 8 ∷ not (complete l) ⇒ 9 ∷ [])
+refusal l = first (not (layout l) gives 7 ∷ not (ordered (l .n) (under l)) gives 8 ∷ not (complete l) gives 9 ∷ [])
 
 -- What each number says, both ways: proofs/Verdict proves it of every record.
 pub record Verdict (l : Lattice) : Type 0 where

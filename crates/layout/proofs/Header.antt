@@ -17,52 +17,52 @@ use Rattle.base.proofs.Below.{all-at, all-yes}
 use Rattle.base.proofs.Meaning.{checked, means-zero}
 use Rattle.layout.proofs.Sizes.{width-some}
 use Rattle.layout.specs.Layout.{byteAt, wordAt, limit, count, offset, end, part}
-use Rattle.layout.specs.Header.{lengthRight, editionRight, countRight, countsRight, zerosRight, inside, allInside, apart, allApart, placing, placed, LengthSaid, CountsInRange, HeaderZeros, SectionsInside, InSection, NoSharedByte, placingRules, sectionOf}
+use Rattle.layout.specs.Header.{lengthOk, editionOk, countOk, countsOk, zerosOk, inside, allInside, apart, allApart, placing, placingRefusal, LengthSaid, CountsInRange, HeaderZeros, SectionsInside, InSection, NoSharedByte, placingRules, sectionOf}
 
 module _ (file : List ℕ) where
   -- the header is there, from what the first test returned
-  pub whole-header : {r : Bool} → r ≡ lengthRight file → not r ≡ false → 24 ≤ length file
-  unfolding lengthRight
+  pub whole-header : {r : Bool} → r ≡ lengthOk file → not r ≡ false → 24 ≤ length file
+  unfolding lengthOk
   whole-header {r} e n = leb-true _ _ (and-true (leb 24 (length file)) (leb (length file) 4096 && eqb (wordAt file 20) (length file)) (sym e ∙ not-false r n) .0)
 
-  length-words : lengthRight file ≡ true → LengthSaid file
-  unfolding lengthRight
+  length-words : lengthOk file ≡ true → LengthSaid file
+  unfolding lengthOk
   length-words e =
       let a = and-true (leb 24 (length file)) (leb (length file) 4096 && eqb (wordAt file 20) (length file)) e in
       let b = and-true (leb (length file) 4096) (eqb (wordAt file 20) (length file)) (a .1) in
       record { whole-header = leb-true _ _ (a .0); within-limit = leb-true _ _ (b .0); said = eqb-true _ _ (b .1) }
 
-  length-back : LengthSaid file → lengthRight file ≡ true
-  unfolding lengthRight
+  length-back : LengthSaid file → lengthOk file ≡ true
+  unfolding lengthOk
   length-back w = and-both _ _ (le-leb _ _ (w .whole-header)) (and-both _ _ (le-leb _ _ (w .within-limit)) (eq-eqb _ _ (w .said)))
 
-  edition-words : editionRight file ≡ true → byteAt file 0 ≡ 1
-  unfolding editionRight
+  edition-words : editionOk file ≡ true → byteAt file 0 ≡ 1
+  unfolding editionOk
   edition-words e = eqb-true _ _ e
 
-  edition-back : byteAt file 0 ≡ 1 → editionRight file ≡ true
-  unfolding editionRight
+  edition-back : byteAt file 0 ≡ 1 → editionOk file ≡ true
+  unfolding editionOk
   edition-back w = eq-eqb _ _ w
 
-  counts-words : countsRight file ≡ true → CountsInRange file
-  unfolding countsRight countRight
+  counts-words : countsOk file ≡ true → CountsInRange file
+  unfolding countsOk countOk
   counts-words e k l =
-      let q = and-true (leb 1 (count file k)) (leb (count file k) (limit k)) (all-at 6 (λ (i : ℕ). countRight i (count file i)) e k l) in
+      let q = and-true (leb 1 (count file k)) (leb (count file k) (limit k)) (all-at 6 (λ (i : ℕ). countOk i (count file i)) e k l) in
       (leb-true _ _ (q .0), leb-true _ _ (q .1))
 
-  pub counts-back : CountsInRange file → countsRight file ≡ true
-  unfolding countsRight countRight
+  pub counts-back : CountsInRange file → countsOk file ≡ true
+  unfolding countsOk countOk
   counts-back w = all-yes 6 _ (λ k l. and-both _ _ (le-leb _ _ (w k l .0)) (le-leb _ _ (w k l .1)))
 
-  zeros-words : zerosRight file ≡ true → HeaderZeros file
-  unfolding zerosRight
+  zeros-words : zerosOk file ≡ true → HeaderZeros file
+  unfolding zerosOk
   zeros-words e =
       let z = and-true (eqb (byteAt file 7) 0) (eqb (byteAt file 22) 0 && eqb (byteAt file 23) 0) e in
       let y = and-true (eqb (byteAt file 22) 0) (eqb (byteAt file 23) 0) (z .1) in
       record { zero-7 = eqb-true _ _ (z .0); zero-22 = eqb-true _ _ (y .0); zero-23 = eqb-true _ _ (y .1) }
 
-  zeros-back : HeaderZeros file → zerosRight file ≡ true
-  unfolding zerosRight
+  zeros-back : HeaderZeros file → zerosOk file ≡ true
+  unfolding zerosOk
   zeros-back w = and-both _ _ (eq-eqb _ _ (w .zero-7)) (and-both _ _ (eq-eqb _ _ (w .zero-22)) (eq-eqb _ _ (w .zero-23)))
 
   inside-words : allInside file ≡ true → SectionsInside file
@@ -123,19 +123,19 @@ module _ (file : List ℕ) where
   -- checks 1 to 6: each test means its rule
   pub placing-means : Means (placing file) (placingRules file)
   placing-means = (
-    checked (lengthRight file) length-words length-back,
+    checked (lengthOk file) length-words length-back,
     (
       refl,
       λ _. (
-        checked (editionRight file) edition-words edition-back,
+        checked (editionOk file) edition-words edition-back,
         (
           refl,
           λ _. (
-            checked (countsRight file) counts-words counts-back,
+            checked (countsOk file) counts-words counts-back,
             (
               refl,
               λ c. (
-                checked (zerosRight file) zeros-words zeros-back,
+                checked (zerosOk file) zeros-words zeros-back,
                 (
                   refl,
                   λ _. (
@@ -155,12 +155,12 @@ module _ (file : List ℕ) where
     ),
   )
 
-  pub placed-law : (placed file ≡ 0) ↔ Keeps (placingRules file)
-  unfolding placed
+  pub placed-law : (placingRefusal file ≡ 0) ↔ Keeps (placingRules file)
+  unfolding placingRefusal
   placed-law = means-zero (placing file) (placingRules file) (refl, (refl, (refl, (refl, (refl, (refl, tt)))))) placing-means
 
   -- what the callers of a placed file use
-  module _ (e : placed file ≡ 0) where
+  module _ (e : placingRefusal file ≡ 0) where
     pub length-said : LengthSaid file
     length-said = placed-law .0 e .0
 
@@ -171,15 +171,15 @@ module _ (file : List ℕ) where
     sections-inside = placed-law .0 e .1 .1 .1 .1 .0
 
 -- the section call's three ways out: r is the number of the first failed check
-module _ (file : List ℕ) (kind : ℕ) {r : ℕ} (e : r ≡ placed file) where
+module _ (file : List ℕ) (kind : ℕ) {r : ℕ} (e : r ≡ placingRefusal file) where
   pub section-refused : (r ≡ 0 → ⊥) → [] ≡ sectionOf file kind
   unfolding sectionOf
-  section-refused n = rw (ne-eqb (placed file) 0 (λ z. n (e ∙ z)))
+  section-refused n = rw (ne-eqb (placingRefusal file) 0 (λ z. n (e ∙ z)))
 
   pub section-unknown : 6 ≤ kind → [] ≡ sectionOf file kind
   unfolding sectionOf
-  section-unknown l = split (eqb (placed file) 0) (λ h. rw (h, le-ltb kind 6 l)) (λ h. rw h)
+  section-unknown l = split (eqb (placingRefusal file) 0) (λ h. rw (h, le-ltb kind 6 l)) (λ h. rw h)
 
   pub section-part : {s : List ℕ} → r ≡ 0 → kind < 6 → s ≡ part file kind → s ≡ sectionOf file kind
   unfolding sectionOf
-  section-part z l p = p ∙ rw (eq-eqb (placed file) 0 (sym e ∙ z), lt-ltb kind 6 l)
+  section-part z l p = p ∙ rw (eq-eqb (placingRefusal file) 0 (sym e ∙ z), lt-ltb kind 6 l)

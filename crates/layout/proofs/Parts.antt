@@ -6,10 +6,10 @@ use mathlib.Core.List.{List}
 use lib.ListN.{length, drop, length-drop}
 use lib.Seq.{length-take-le}
 use Rattle.layout.specs.Layout.{width, limit, count, offset, size, part, Cells}
-use Rattle.layout.specs.Header.{placed}
+use Rattle.layout.specs.Header.{placingRefusal}
 use Rattle.layout.proofs.Header.{length-said, counts-in-range, sections-inside}
 
-module _ (file : List ℕ) (e : placed file ≡ 0) where
+module _ (file : List ℕ) (e : placingRefusal file ≡ 0) where
   pub header-there : 24 ≤ length file
   header-there = length-said file e .whole-header
 

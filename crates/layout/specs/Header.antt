@@ -6,27 +6,27 @@ use mathlib.Core.List.{List, [], _∷_}
 use lib.Dec.{eqb, leb, ltb}
 use lib.ListN.{length}
 use Rattle.base.specs.Below.{allBelow}
-use Rattle.base.specs.Chain.{Test, _⇒_, first, Rule, _refused-by_}
+use Rattle.base.specs.Chain.{Test, _gives_, first, Rule, _or-else_}
 use Rattle.layout.specs.Layout.{byteAt, wordAt, sections, headerBytes, fileLimit, limit, count, offset, end, part}
 
 -- 1: at least a header, at most 4,096 bytes, and as long as it says: a file that was cut or padded is noticed at once.
-unfoldable pub lengthRight : List ℕ → Bool
-lengthRight file = leb headerBytes (length file) && (leb (length file) fileLimit && eqb (wordAt file 20) (length file))
+unfoldable pub lengthOk : List ℕ → Bool
+lengthOk file = leb headerBytes (length file) && (leb (length file) fileLimit && eqb (wordAt file 20) (length file))
 
 -- 2: the edition
-unfoldable pub editionRight : List ℕ → Bool
-editionRight file = eqb (byteAt file 0) 1
+unfoldable pub editionOk : List ℕ → Bool
+editionOk file = eqb (byteAt file 0) 1
 
 -- 3: a count within its range. None is 0, so no section is empty.
-unfoldable pub countRight : ℕ → ℕ → Bool
-countRight k c = leb 1 c && leb c (limit k)
+unfoldable pub countOk : ℕ → ℕ → Bool
+countOk k c = leb 1 c && leb c (limit k)
 
-unfoldable pub countsRight : List ℕ → Bool
-countsRight file = allBelow (λ k. countRight k (count file k)) sections
+unfoldable pub countsOk : List ℕ → Bool
+countsOk file = allBelow (λ k. countOk k (count file k)) sections
 
 -- 4: the bytes of the header that are always zero
-unfoldable pub zerosRight : List ℕ → Bool
-zerosRight file = eqb (byteAt file 7) 0 && (eqb (byteAt file 22) 0 && eqb (byteAt file 23) 0)
+unfoldable pub zerosOk : List ℕ → Bool
+zerosOk file = eqb (byteAt file 7) 0 && (eqb (byteAt file 22) 0 && eqb (byteAt file 23) 0)
 
 -- 5: section k begins behind the header and ends within the file. It may begin at 24 and end at the file's end.
 unfoldable pub inside : List ℕ → ℕ → Bool
@@ -45,16 +45,16 @@ allApart file = allBelow (λ i. allBelow (apart file i) i) sections
 -- checks 1 to 6 in their order
 abbrev pub placing : List ℕ → List Test
 placing file =
-    not (lengthRight file) ⇒ 1
-    ∷ not (editionRight file) ⇒ 2
-    ∷ not (countsRight file) ⇒ 3
-    ∷ not (zerosRight file) ⇒ 4
-    ∷ not (allInside file) ⇒ 5
-    ∷ not (allApart file) ⇒ 6
+    not (lengthOk file) gives 1
+    ∷ not (editionOk file) gives 2
+    ∷ not (countsOk file) gives 3
+    ∷ not (zerosOk file) gives 4
+    ∷ not (allInside file) gives 5
+    ∷ not (allApart file) gives 6
     ∷ []
 
-unfoldable pub placed : List ℕ → ℕ
-placed file = first (placing file)
+unfoldable pub placingRefusal : List ℕ → ℕ
+placingRefusal file = first (placing file)
 
 -- The same six checks in words. proofs/Header has that each test means its rule.
 pub record LengthSaid (file : List ℕ) : Type 0 where
@@ -83,15 +83,15 @@ NoSharedByte file = (i j b : ℕ) → i < sections → j < sections → InSectio
 
 abbrev pub placingRules : List ℕ → List Rule
 placingRules file =
-    LengthSaid file refused-by 1
-    ∷ (byteAt file 0 ≡ 1) refused-by 2
-    ∷ CountsInRange file refused-by 3
-    ∷ HeaderZeros file refused-by 4
-    ∷ SectionsInside file refused-by 5
-    ∷ NoSharedByte file refused-by 6
+    LengthSaid file or-else 1
+    ∷ (byteAt file 0 ≡ 1) or-else 2
+    ∷ CountsInRange file or-else 3
+    ∷ HeaderZeros file or-else 4
+    ∷ SectionsInside file or-else 5
+    ∷ NoSharedByte file or-else 6
     ∷ []
 
 -- The section call: the bytes of section `kind`, or none where one of 1 to 6 fails or there is no such section. It does not look at
 -- 7 to 12: an engineer who mends a file wants to see the section that is wrong.
 unfoldable pub sectionOf : List ℕ → ℕ → List ℕ
-sectionOf file kind = cond (eqb (placed file) 0 && ltb kind sections) (part file kind) []
+sectionOf file kind = cond (eqb (placingRefusal file) 0 && ltb kind sections) (part file kind) []

@@ -4,7 +4,7 @@ ghost use Prim.Native.Nat.{ℕ, _+_, _*_, _<_, _≤_};
 ghost use lib.ListN.{length};
 ghost use Rattle.base.specs.Below.{allBelow};
 ghost use Rattle.layout.specs.Layout.{byteAt, wordAt, width, limit, count, offset, end, part, place, bytesOf, wordsOf, zeroAt, zerosAt, Cells};
-ghost use Rattle.layout.specs.Header.{lengthRight, editionRight, countRight, countsRight, zerosRight, inside, allInside, apart, allApart, placed, sectionOf};
+ghost use Rattle.layout.specs.Header.{lengthOk, editionOk, countOk, countsOk, zerosOk, inside, allInside, apart, allApart, placingRefusal, sectionOf};
 
 // Bytes of a record and the most records, by section: lattices, requirements, groups, tanks, tasks, skids.
 const WIDTHS: [usize; 6] = [34, 2, 2, 2, 10, 2];
@@ -77,8 +77,8 @@ fn end_of(file: &[u8], kind: usize) -> usize
 }
 
 // 1: the length.
-fn length_right(file: &[u8]) -> bool
-    ensures { λ r. ⌜ r ≡ lengthRight (now (file .entry)) ⌝ }
+fn length_ok(file: &[u8]) -> bool
+    ensures { λ r. ⌜ r ≡ lengthOk (now (file .entry)) ⌝ }
 {
     if file.len() < 24 {
         return false;
@@ -90,27 +90,27 @@ fn length_right(file: &[u8]) -> bool
 }
 
 // 2: the edition.
-fn edition_right(file: &[u8]) -> bool
+fn edition_ok(file: &[u8]) -> bool
     requires { ⌜ 24 ≤ length (now file) ⌝ }
-    ensures { λ r. ⌜ r ≡ editionRight (now (file .entry)) ⌝ }
+    ensures { λ r. ⌜ r ≡ editionOk (now (file .entry)) ⌝ }
 {
     file[0] == 1
 }
 
 // 3: the counts.
-pub fn count_right(kind: usize, count: usize) -> bool
+pub fn count_ok(kind: usize, count: usize) -> bool
     requires { ⌜ kind < 6 ⌝ }
-    ensures { λ r. ⌜ r ≡ countRight kind count ⌝ }
+    ensures { λ r. ⌜ r ≡ countOk kind count ⌝ }
 {
     1 <= count && count <= limit_of(kind)
 }
 
-fn counts_right(file: &[u8]) -> bool
+fn counts_ok(file: &[u8]) -> bool
     requires { ⌜ 24 ≤ length (now file) ⌝ }
-    ensures { λ r. ⌜ r ≡ countsRight (now (file .entry)) ⌝ }
+    ensures { λ r. ⌜ r ≡ countsOk (now (file .entry)) ⌝ }
 {
     for kind in 0..SECTIONS {
-        if !count_right(kind, count_of(file, kind)) {
+        if !count_ok(kind, count_of(file, kind)) {
             return false;
         }
     }
@@ -118,9 +118,9 @@ fn counts_right(file: &[u8]) -> bool
 }
 
 // 4: the header's zero bytes.
-fn zeros_right(file: &[u8]) -> bool
+fn zeros_ok(file: &[u8]) -> bool
     requires { ⌜ 24 ≤ length (now file) ⌝ }
-    ensures { λ r. ⌜ r ≡ zerosRight (now (file .entry)) ⌝ }
+    ensures { λ r. ⌜ r ≡ zerosOk (now (file .entry)) ⌝ }
 {
     if file[7] != 0 {
         return false;
@@ -185,18 +185,18 @@ fn all_apart(file: &[u8]) -> bool
 
 // The first of 1 to 6 that fails, or 0.
 pub fn placing_refusal(file: &[u8]) -> u8
-    ensures { λ r. ⌜ r ≡ placed (now (file .entry)) ⌝ }
+    ensures { λ r. ⌜ r ≡ placingRefusal (now (file .entry)) ⌝ }
 {
-    if !length_right(file) {
+    if !length_ok(file) {
         return 1;
     }
-    if !edition_right(file) {
+    if !edition_ok(file) {
         return 2;
     }
-    if !counts_right(file) {
+    if !counts_ok(file) {
         return 3;
     }
-    if !zeros_right(file) {
+    if !zeros_ok(file) {
         return 4;
     }
     if !all_inside(file) {
@@ -210,7 +210,7 @@ pub fn placing_refusal(file: &[u8]) -> u8
 
 // The part of the file that a section fills.
 pub fn part_of(file: &[u8], kind: usize) -> &[u8]
-    requires { ⌜ (placed (now file) ≡ 0) × (kind < 6) ⌝ }
+    requires { ⌜ (placingRefusal (now file) ≡ 0) × (kind < 6) ⌝ }
     ensures { λ r. ⌜ now r ≡ part (now (file .entry)) kind ⌝ }
 {
     let off = offset_of(file, kind);

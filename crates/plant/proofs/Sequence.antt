@@ -16,17 +16,17 @@ use Rattle.base.proofs.Chain.{first-append}
 use Rattle.base.proofs.Both.{held}
 use Rattle.lattice.specs.Levels.{refusal}
 use Rattle.layout.specs.Layout.{limit}
-use Rattle.layout.specs.Header.{countRight}
+use Rattle.layout.specs.Header.{countOk}
 use Rattle.plant.specs.declared.Plant.{Plant}
 use Rattle.plant.specs.Plant.{latticeFrom, countsOf}
-use Rattle.plant.specs.Checks.{Fits, entryBelow, entryIs, countsIn, refusalsOf, firstNumber, latticeFails, numbersRight, noTwins, allJudged, latticeChecks, itemChecks, latticesRefusal, itemsRefusal, plantRefusal}
+use Rattle.plant.specs.Checks.{Fits, entryBelow, entryIs, countsIn, refusalsOf, firstNumber, latticeFails, numbersOk, levelsDistinct, requirementsNamed, latticeChecks, itemChecks, latticesRefusal, itemsRefusal, plantRefusal}
 use Rattle.plant.proofs.Links.{entry-at}
 
 module _ (p : Plant) where
   pub count-in : countsIn p ≡ true → (k : ℕ) → k < 6 → (1 ≤ getD (countsOf p) k 0) × (getD (countsOf p) k 0 ≤ limit k)
-  unfolding countsIn countRight
+  unfolding countsIn countOk
   count-in e k l =
-      let q = and-true (leb 1 (getD (countsOf p) k 0)) (leb (getD (countsOf p) k 0) (limit k)) (all-at 6 (λ (i : ℕ). countRight i (getD (countsOf p) i 0)) e k l) in
+      let q = and-true (leb 1 (getD (countsOf p) k 0)) (leb (getD (countsOf p) k 0) (limit k)) (all-at 6 (λ (i : ℕ). countOk i (getD (countsOf p) i 0)) e k l) in
       (leb-true _ _ (q .0), leb-true _ _ (q .1))
 
   pub fits : countsIn p ≡ true → Fits p
@@ -51,8 +51,8 @@ module _ (p : Plant) where
       (λ l h. ap (λ (x : ℕ). eqb x k) (fill-at (λ (i : ℕ). refusal (latticeFrom (p .sizes) (p .sets) i)) (replicate 8 0) (p .lattices) l 0 (omega (arith, length-replicate {A = ℕ} 8 0)) h))
 
   -- every group's requirement can be looked up in a set of requirements
-  pub requirements-fit-set : Fits p → numbersRight p ≡ true → allBelow (entryBelow (p .requirement) 8) (p .groups) ≡ true
-  unfolding numbersRight
+  pub requirements-fit-set : Fits p → numbersOk p ≡ true → allBelow (entryBelow (p .requirement) 8) (p .groups) ≡ true
+  unfolding numbersOk
   requirements-fit-set f e =
       let q = and-true (allBelow (entryBelow (p .lattice) (p .lattices)) (p .requirements)) _ e in
       let r = and-true (allBelow (entryBelow (p .requirement) (p .requirements)) (p .groups)) _ (q .1) in

@@ -12,7 +12,7 @@ use borrow.Author.Tests.{ltb-true, ltb-false, lt-ltb, le-leb, eqb-true, eqb-fals
 use Rattle.base.specs.Below.{allBelow, anyBelow, implies}
 use Rattle.base.specs.Bits.{bit, noneFrom}
 use Rattle.base.proofs.Logic.{split, true-false, and-true, and-both, or-cases, or-false, or-left, or-right, implies-true, implies-intro, not-is-false}
-use Rattle.base.specs.Chain.{_⇒_, _refused-by_, Means}
+use Rattle.base.specs.Chain.{_gives_, _or-else_, Means}
 use Rattle.base.proofs.Meaning.{checked, means-zero}
 use Rattle.base.proofs.Below.{all-at, all-yes, any-no, any-none}
 use Rattle.base.proofs.Bits.{clear-bit, clear-yes, no-bits, zero-bit}
@@ -20,17 +20,17 @@ use Rattle.lattice.specs.Levels.{refusal, layout, ordered, Layout}
 use Rattle.lattice.specs.Levels as levels
 use Rattle.lattice.proofs.Verdict.{verdict, refusal-zero}
 use Rattle.lattice.proofs.Laws.{layout-iff, order-iff}
-use Rattle.layout.specs.Header.{countRight}
+use Rattle.layout.specs.Header.{countOk}
 use Rattle.plant.specs.declared.Plant.{Plant}
-use Rattle.plant.specs.Plant.{latticeAt, countsOf, requirementOf, groupOf, levelOf, levelsOf, latticeOf, names, rightsOf, needs}
+use Rattle.plant.specs.Plant.{latticeAt, countsOf, requirementOf, groupOf, levelOf, levelsOf, latticeOf, namesRequirement, rightsOf, needs}
 use Rattle.plant.specs.Right.{rights}
-use Rattle.plant.specs.Checks.{entryBelow, entryClear, countsIn, latticeFails, tankRight, rightIn, taskRightIn, taskRight, numbersRight, twins, noTwins, judged, allJudged, recordChecks, plantRefusal, Counts, Layouts, Orders, Lattices, Numbers, recordRules, Sound}
+use Rattle.plant.specs.Checks.{entryBelow, entryClear, countsIn, latticeFails, tankFits, rightIn, taskFitssIn, taskFits, numbersOk, atOneLevel, levelsDistinct, requirementNamed, requirementsNamed, recordChecks, plantRefusal, Counts, Layouts, Orders, Lattices, Numbers, recordRules, Sound}
 use Rattle.plant.proofs.Sequence.{count-in}
 use Rattle.plant.proofs.Links.{entry-at}
 
 module _ (p : Plant) where
   counts-back : Counts p → countsIn p ≡ true
-  unfolding countsIn countRight
+  unfolding countsIn countOk
   counts-back c = all-yes 6 _ (λ k l. and-both _ _ (le-leb _ _ (c k l .0)) (le-leb _ _ (c k l .1)))
 
   -- lattices: no lattice has the number k
@@ -71,31 +71,31 @@ module _ (p : Plant) where
   record Tests : Type 0 where
     lattice-test : allBelow (entryBelow (p .lattice) (p .lattices)) (p .requirements) ≡ true
     requirement-test : allBelow (entryBelow (p .requirement) (p .requirements)) (p .groups) ≡ true
-    tank-test : allBelow (tankRight p) (p .tanks) ≡ true
-    task-test : allBelow (taskRight p) (p .tasks) ≡ true
+    tank-test : allBelow (tankFits p) (p .tanks) ≡ true
+    task-test : allBelow (taskFits p) (p .tasks) ≡ true
     skid-test : allBelow (entryClear (p .may) (p .tasks)) (p .skids) ≡ true
 
-  tests : numbersRight p ≡ true → Tests
-  unfolding numbersRight
+  tests : numbersOk p ≡ true → Tests
+  unfolding numbersOk
   tests e =
       let a = and-true (allBelow (entryBelow (p .lattice) (p .lattices)) (p .requirements)) _ e in
       let b = and-true (allBelow (entryBelow (p .requirement) (p .requirements)) (p .groups)) _ (a .1) in
-      let c = and-true (allBelow (tankRight p) (p .tanks)) _ (b .1) in
-      let d = and-true (allBelow (taskRight p) (p .tasks)) (allBelow (entryClear (p .may) (p .tasks)) (p .skids)) (c .1) in
+      let c = and-true (allBelow (tankFits p) (p .tanks)) _ (b .1) in
+      let d = and-true (allBelow (taskFits p) (p .tasks)) (allBelow (entryClear (p .may) (p .tasks)) (p .skids)) (c .1) in
       record { lattice-test = a .0; requirement-test = b .0; tank-test = c .0; task-test = d .0; skid-test = d .1 }
 
   tank-at : Tests → (o : ℕ) → o < p .tanks → (groupOf p o < p .groups) × (levelOf p o < levelsOf p (requirementOf p (groupOf p o)))
   tank-at t o l =
-      let q = and-true (ltb (groupOf p o) (p .groups)) (ltb (levelOf p o) (levelsOf p (requirementOf p (groupOf p o)))) (all-at (p .tanks) (tankRight p) (t .tank-test) o l) in
+      let q = and-true (ltb (groupOf p o) (p .groups)) (ltb (levelOf p o) (levelsOf p (requirementOf p (groupOf p o)))) (all-at (p .tanks) (tankFits p) (t .tank-test) o l) in
       (ltb-true _ _ (q .0), ltb-true _ _ (q .1))
 
-  task-at : Tests → (t : ℕ) → t < p .tasks → (noneFrom (p .requirements) (getD (p .names) t 0) ≡ true) × (allBelow (taskRightIn (p .rights) (p .groups) t) 8 ≡ true)
-  task-at s t l = and-true (noneFrom (p .requirements) (getD (p .names) t 0)) _ (all-at (p .tasks) (taskRight p) (s .task-test) t l)
+  task-at : Tests → (t : ℕ) → t < p .tasks → (noneFrom (p .requirements) (getD (p .names) t 0) ≡ true) × (allBelow (taskFitssIn (p .rights) (p .groups) t) 8 ≡ true)
+  task-at s t l = and-true (noneFrom (p .requirements) (getD (p .names) t 0)) _ (all-at (p .tasks) (taskFits p) (s .task-test) t l)
 
   right-at : Tests → (t g : ℕ) → t < p .tasks → g < 8 → (noneFrom rights (rightsOf p t g) ≡ true) × (ltb g (p .groups) || eqb (rightsOf p t g) 0 ≡ true)
-  right-at s t g l m = and-true (noneFrom rights (rightsOf p t g)) _ (all-at 8 (taskRightIn (p .rights) (p .groups) t) (task-at s t l .1) g m)
+  right-at s t g l m = and-true (noneFrom rights (rightsOf p t g)) _ (all-at 8 (taskFitssIn (p .rights) (p .groups) t) (task-at s t l .1) g m)
 
-  numbers-words : numbersRight p ≡ true → Numbers p
+  numbers-words : numbersOk p ≡ true → Numbers p
   numbers-words e = let s = tests e in record {
     lattice-in = λ d l. entry-at (p .lattice) (p .lattices) (p .requirements) d (s .lattice-test) l;
     requirement-in = λ g l. entry-at (p .requirement) (p .requirements) (p .groups) g (s .requirement-test) l;
@@ -107,7 +107,7 @@ module _ (p : Plant) where
     may-in = λ x t l b. clear-bit (p .tasks) (getD (p .may) x 0) t (all-at (p .skids) (entryClear (p .may) (p .tasks)) (s .skid-test) x l) b;
   }
 
-  right-back : Numbers p → (t g : ℕ) → t < p .tasks → g < 8 → taskRightIn (p .rights) (p .groups) t g ≡ true
+  right-back : Numbers p → (t g : ℕ) → t < p .tasks → g < 8 → taskFitssIn (p .rights) (p .groups) t g ≡ true
   right-back n t g l m =
       and-both _ _ (clear-yes rights (rightsOf p t g) (λ r b. n .rights-known t g r l m b))
       (elim (decLt g (p .groups)) [
@@ -115,8 +115,8 @@ module _ (p : Plant) where
         | no y ↦ or-right (ltb g (p .groups)) (eqb (rightsOf p t g) 0) (eq-eqb _ _ (n .rights-in t g l m (omega arith)))
       ])
 
-  numbers-back : Numbers p → numbersRight p ≡ true
-  unfolding numbersRight
+  numbers-back : Numbers p → numbersOk p ≡ true
+  unfolding numbersOk
   numbers-back n =
       and-both _ _ (all-yes (p .requirements) _ (λ d l. lt-ltb _ _ (n .lattice-in d l)))
       (and-both _ _ (all-yes (p .groups) _ (λ g l. lt-ltb _ _ (n .requirement-in g l)))
@@ -125,25 +125,25 @@ module _ (p : Plant) where
       (all-yes (p .skids) _ (λ x l. clear-yes (p .tasks) (getD (p .may) x 0) (λ t b. n .may-in x t l b))))))
 
   -- tanks
-  twin-at : noTwins p ≡ true → (a b : ℕ) → a < p .tanks → b < a → groupOf p a ≡ groupOf p b → levelOf p a ≡ levelOf p b → ⊥
-  unfolding noTwins
-  twin-at e a b l m g v =
-      true-false (sym (and-both _ _ (eq-eqb _ _ g) (eq-eqb _ _ v)) ∙ not-true (twins p a b) (all-at a (λ (x : ℕ). not (twins p a x)) (all-at (p .tanks) (λ (y : ℕ). allBelow (λ (x : ℕ). not (twins p y x)) y) e a l) b m))
+  distinct-at : levelsDistinct p ≡ true → (a b : ℕ) → a < p .tanks → b < a → groupOf p a ≡ groupOf p b → levelOf p a ≡ levelOf p b → ⊥
+  unfolding levelsDistinct
+  distinct-at e a b l m g v =
+      true-false (sym (and-both _ _ (eq-eqb _ _ g) (eq-eqb _ _ v)) ∙ not-true (atOneLevel p a b) (all-at a (λ (x : ℕ). not (atOneLevel p a x)) (all-at (p .tanks) (λ (y : ℕ). allBelow (λ (x : ℕ). not (atOneLevel p y x)) y) e a l) b m))
 
-  twins-words : noTwins p ≡ true → (a b : ℕ) → a < p .tanks → b < p .tanks → groupOf p a ≡ groupOf p b → levelOf p a ≡ levelOf p b → a ≡ b
-  twins-words e a b l m g v = elim (decLt b a) [
-    | yes x ↦ absurd (twin-at e a b l x g v)
+  distinct-words : levelsDistinct p ≡ true → (a b : ℕ) → a < p .tanks → b < p .tanks → groupOf p a ≡ groupOf p b → levelOf p a ≡ levelOf p b → a ≡ b
+  distinct-words e a b l m g v = elim (decLt b a) [
+    | yes x ↦ absurd (distinct-at e a b l x g v)
     | no x ↦ elim (decLt a b) [
-      | yes y ↦ absurd (twin-at e b a m y (sym g) (sym v))
+      | yes y ↦ absurd (distinct-at e b a m y (sym g) (sym v))
       | no y ↦ omega arith
     ]
   ]
 
-  twins-back : ((a b : ℕ) → a < p .tanks → b < p .tanks → groupOf p a ≡ groupOf p b → levelOf p a ≡ levelOf p b → a ≡ b) → noTwins p ≡ true
-  unfolding noTwins
-  twins-back f =
+  distinct-back : ((a b : ℕ) → a < p .tanks → b < p .tanks → groupOf p a ≡ groupOf p b → levelOf p a ≡ levelOf p b → a ≡ b) → levelsDistinct p ≡ true
+  unfolding levelsDistinct
+  distinct-back f =
       all-yes (p .tanks) _ (λ a l. all-yes a _ (λ b m.
-      split (twins p a b)
+      split (atOneLevel p a b)
       (λ e.
       let q = and-true (eqb (groupOf p a) (groupOf p b)) (eqb (levelOf p a) (levelOf p b)) e in
       let z : a ≡ b = f a b l (omega arith) (eqb-true _ _ (q .0)) (eqb-true _ _ (q .1)) in
@@ -151,18 +151,18 @@ module _ (p : Plant) where
       (λ e. rw e)))
 
   -- tasks
-  judged-words : allJudged p ≡ true → (t g r : ℕ) → t < p .tasks → g < p .groups → bit (rightsOf p t g) r ≡ true → names p t (requirementOf p g) ≡ true
-  unfolding allJudged
-  judged-words e t g r l m b =
-      implies-true (needs p t g) (names p t (requirementOf p g))
-      (all-at (p .groups) (judged p t) (all-at (p .tasks) (λ (x : ℕ). allBelow (judged p x) (p .groups)) e t l) g m)
+  named-words : requirementsNamed p ≡ true → (t g r : ℕ) → t < p .tasks → g < p .groups → bit (rightsOf p t g) r ≡ true → namesRequirement p t (requirementOf p g) ≡ true
+  unfolding requirementsNamed
+  named-words e t g r l m b =
+      implies-true (needs p t g) (namesRequirement p t (requirementOf p g))
+      (all-at (p .groups) (requirementNamed p t) (all-at (p .tasks) (λ (x : ℕ). allBelow (requirementNamed p x) (p .groups)) e t l) g m)
       (ap not (ne-eqb (rightsOf p t g) 0 (λ z. true-false (sym b ∙ ap (λ (x : ℕ). bit x r) z ∙ zero-bit r))))
 
-  judged-back : ((t g r : ℕ) → t < p .tasks → g < p .groups → bit (rightsOf p t g) r ≡ true → names p t (requirementOf p g) ≡ true) → allJudged p ≡ true
-  unfolding allJudged
-  judged-back f =
-      all-yes (p .tasks) _ (λ t l. all-yes (p .groups) _ (λ g m. implies-intro (needs p t g) (names p t (requirementOf p g)) (λ n.
-      split (names p t (requirementOf p g)) (λ e. e)
+  named-back : ((t g r : ℕ) → t < p .tasks → g < p .groups → bit (rightsOf p t g) r ≡ true → namesRequirement p t (requirementOf p g) ≡ true) → requirementsNamed p ≡ true
+  unfolding requirementsNamed
+  named-back f =
+      all-yes (p .tasks) _ (λ t l. all-yes (p .groups) _ (λ g m. implies-intro (needs p t g) (namesRequirement p t (requirementOf p g)) (λ n.
+      split (namesRequirement p t (requirementOf p g)) (λ e. e)
       (λ e. absurd (eqb-false (rightsOf p t g) 0 (not-true _ n)
       (no-bits (rightsOf p t g) (λ r. split (bit (rightsOf p t g) r) (λ b. absurd (true-false (sym (f t g r l m b) ∙ e))) (λ b. b))))))))
 
@@ -174,9 +174,9 @@ module _ (p : Plant) where
       (λ w. rw (m7 .1 (w .0)) (layouts-back (w .1))),
     )
 
-    ten : (not z10 || not (numbersRight p) ≡ false) ↔ (Z10 × Numbers p)
+    ten : (not z10 || not (numbersOk p) ≡ false) ↔ (Z10 × Numbers p)
     ten = (
-      (λ e. let q = or-false (not z10) (not (numbersRight p)) e in (m10 .0 (not-false z10 (q .0)), numbers-words (not-false _ (q .1)))),
+      (λ e. let q = or-false (not z10) (not (numbersOk p)) e in (m10 .0 (not-false z10 (q .0)), numbers-words (not-false _ (q .1)))),
       (λ w. rw (m10 .1 (w .0)) (not-is-false _ (numbers-back (w .1)))),
     )
 
@@ -198,11 +198,11 @@ module _ (p : Plant) where
                   (
                     refl,
                     λ _. (
-                      checked (noTwins p) twins-words twins-back,
+                      checked (levelsDistinct p) distinct-words distinct-back,
                       (
                         refl,
                         λ _.
-                            (checked (allJudged p) judged-words judged-back, (refl, λ _. tt)),
+                            (checked (requirementsNamed p) named-words named-back, (refl, λ _. tt)),
                       ),
                     ),
                   ),
@@ -218,7 +218,7 @@ module _ (p : Plant) where
 pub sound-law : (p : Plant) → (plantRefusal true true p ≡ 0) ↔ Sound p
 unfolding plantRefusal
 sound-law p =
-    let law = means-zero (not (countsIn p) ⇒ 3 ∷ recordChecks true true p) (Counts p refused-by 3 ∷ recordRules Unit Unit p)
+    let law = means-zero (not (countsIn p) gives 3 ∷ recordChecks true true p) (Counts p or-else 3 ∷ recordRules Unit Unit p)
     (refl, (refl, (refl, (refl, (refl, (refl, (refl, tt)))))))
     (checked (countsIn p) (count-in p) (counts-back p), (refl, λ _. record-means p true true (((λ _. tt), (λ _. refl))) ((λ _. tt), (λ _. refl)))) in (
       (λ e. let k = law .0 e in record {
@@ -227,8 +227,8 @@ sound-law p =
         orders = k .1 .1 .0;
         lattices = k .1 .1 .1 .0;
         numbers = k .1 .1 .1 .1 .0 .1;
-        no-twins = k .1 .1 .1 .1 .1 .0;
-        all-judged = k .1 .1 .1 .1 .1 .1 .0;
+        levels-distinct = k .1 .1 .1 .1 .1 .0;
+        requirements-named = k .1 .1 .1 .1 .1 .1 .0;
       }),
-      (λ s. law .1 (s .counts, ((tt, s .layouts), (s .orders, (s .lattices, ((tt, s .numbers), (s .no-twins, (s .all-judged, tt)))))))),
+      (λ s. law .1 (s .counts, ((tt, s .layouts), (s .orders, (s .lattices, ((tt, s .numbers), (s .levels-distinct, (s .requirements-named, tt)))))))),
     )

@@ -8,14 +8,14 @@ use lib.ListN.{getD, replicate}
 use Rattle.base.specs.Fill.{fill}
 use Rattle.base.specs.Below.{allBelow, anyBelow, implies}
 use Rattle.base.specs.Bits.{bit, noneFrom}
-use Rattle.base.specs.Chain.{Test, _⇒_, first, Rule, _refused-by_}
+use Rattle.base.specs.Chain.{Test, _gives_, first, Rule, _or-else_}
 use Rattle.lattice.specs.Levels.{refusal, Layout}
 use Rattle.lattice.specs.Levels as levels
 use Rattle.lattice.specs.Order.{Order, IsLattice}
-use Rattle.layout.specs.Header.{countRight}
+use Rattle.layout.specs.Header.{countOk}
 use Rattle.layout.specs.Layout.{limit}
 use Rattle.plant.specs.declared.Plant.{Plant}
-use Rattle.plant.specs.Plant.{latticeFrom, latticeAt, latticeOf, levelsOf, requirementOf, groupOf, levelOf, names, rightsOf, grants, needs, mayRun, sameLevel, countsOf}
+use Rattle.plant.specs.Plant.{latticeFrom, latticeAt, latticeOf, levelsOf, requirementOf, groupOf, levelOf, namesRequirement, rightsOf, namesRight, needs, mayRun, sameLevel, countsOf}
 use Rattle.plant.specs.Right.{rights}
 
 -- The counts are within the record's room.
@@ -45,19 +45,19 @@ tankIn levels groups group level = ltb group groups && ltb level (getD levels gr
 abbrev pub rightIn : ℕ → ℕ → ℕ → Bool
 rightIn groups g x = noneFrom rights x && (ltb g groups || eqb x 0)
 
-abbrev pub taskRightIn : List ℕ → ℕ → ℕ → ℕ → Bool
-taskRightIn rs groups t g = rightIn groups g (getD rs (t * 8 + g) 0)
+abbrev pub taskFitssIn : List ℕ → ℕ → ℕ → ℕ → Bool
+taskFitssIn rs groups t g = rightIn groups g (getD rs (t * 8 + g) 0)
 
 abbrev pub taskIn : ℕ → List ℕ → ℕ → ℕ → ℕ → Bool
-taskIn ns rs requirements groups t = noneFrom requirements ns && allBelow (taskRightIn rs groups t) 8
+taskIn ns rs requirements groups t = noneFrom requirements ns && allBelow (taskFitssIn rs groups t) 8
 
 -- two tanks of one group at one level
-abbrev pub twinsIn : List ℕ → List ℕ → ℕ → ℕ → Bool
-twinsIn group level a b = eqb (getD group a 0) (getD group b 0) && eqb (getD level a 0) (getD level b 0)
+abbrev pub atOneLevelIn : List ℕ → List ℕ → ℕ → ℕ → Bool
+atOneLevelIn group level a b = eqb (getD group a 0) (getD group b 0) && eqb (getD level a 0) (getD level b 0)
 
 -- the requirement is named where a right is
-abbrev pub judgedIn : ℕ → ℕ → ℕ → Bool
-judgedIn ns right requirement = implies (not (eqb right 0)) (bit ns requirement)
+abbrev pub requirementNamedIn : ℕ → ℕ → ℕ → Bool
+requirementNamedIn ns right requirement = implies (not (eqb right 0)) (bit ns requirement)
 
 -- how many levels the requirement of group g has
 abbrev pub levelsFrom : List ℕ → List ℕ → List ℕ → ℕ → ℕ
@@ -71,12 +71,12 @@ abbrev pub refusalsOf : List ℕ → List ℕ → ℕ → List ℕ
 refusalsOf sizes sets n = fill (λ l. refusal (latticeFrom sizes sets l)) (replicate 8 0) n
 
 abbrev pub firstNumber : List ℕ → ℕ → ℕ
-firstNumber numbers n = first (anyBelow (entryIs numbers 7) n ⇒ 7 ∷ anyBelow (entryIs numbers 8) n ⇒ 8 ∷ anyBelow (entryIs numbers 9) n ⇒ 9 ∷ [])
+firstNumber numbers n = first (anyBelow (entryIs numbers 7) n gives 7 ∷ anyBelow (entryIs numbers 8) n gives 8 ∷ anyBelow (entryIs numbers 9) n gives 9 ∷ [])
 
 module _ (p : Plant) where
   -- 3: a count outside its range
   unfoldable pub countsIn : Bool
-  countsIn = allBelow (λ k. countRight k (getD (countsOf p) k 0)) 6
+  countsIn = allBelow (λ k. countOk k (getD (countsOf p) k 0)) 6
 
   -- 7, 8, 9: some lattice within the count, used or not, is refused with this number. Each number is asked of all lattices before the
   -- next, so 8 of one lattice decides before 9 of another.
@@ -85,42 +85,42 @@ module _ (p : Plant) where
 
   -- 10: every number is below its count, every level below the n of its lattice, every bit below its count. A tank is judged in the
   -- lattice of its group's requirement.
-  abbrev pub tankRight : ℕ → Bool
-  tankRight o = ltb (groupOf p o) (p .groups) && ltb (levelOf p o) (levelsOf p (requirementOf p (groupOf p o)))
+  abbrev pub tankFits : ℕ → Bool
+  tankFits o = ltb (groupOf p o) (p .groups) && ltb (levelOf p o) (levelsOf p (requirementOf p (groupOf p o)))
 
-  abbrev pub taskRight : ℕ → Bool
-  taskRight t = taskIn (getD (p .names) t 0) (p .rights) (p .requirements) (p .groups) t
+  abbrev pub taskFits : ℕ → Bool
+  taskFits t = taskIn (getD (p .names) t 0) (p .rights) (p .requirements) (p .groups) t
 
-  unfoldable pub numbersRight : Bool
-  numbersRight =
+  unfoldable pub numbersOk : Bool
+  numbersOk =
       allBelow (entryBelow (p .lattice) (p .lattices)) (p .requirements)
       && (allBelow (entryBelow (p .requirement) (p .requirements)) (p .groups)
-      && (allBelow tankRight (p .tanks)
-      && (allBelow taskRight (p .tasks)
+      && (allBelow tankFits (p .tanks)
+      && (allBelow taskFits (p .tasks)
       && allBelow (entryClear (p .may) (p .tasks)) (p .skids))))
 
   -- 11: no two tanks of one group at one level. In another group the same level is right.
-  abbrev pub twins : ℕ → ℕ → Bool
-  twins a b = eqb (groupOf p a) (groupOf p b) && sameLevel p (groupOf p a) a b
+  abbrev pub atOneLevel : ℕ → ℕ → Bool
+  atOneLevel a b = eqb (groupOf p a) (groupOf p b) && sameLevel p (groupOf p a) a b
 
-  unfoldable pub noTwins : Bool
-  noTwins = allBelow (λ a. allBelow (λ b. not (twins a b)) a) (p .tanks)
+  unfoldable pub levelsDistinct : Bool
+  levelsDistinct = allBelow (λ a. allBelow (λ b. not (atOneLevel a b)) a) (p .tanks)
 
   -- 12: a task names the requirement of each group on which it names a right. The article ties the two nowhere; without it a skid could
   -- start on a group for which no level is asked.
-  abbrev pub judged : ℕ → ℕ → Bool
-  judged t g = implies (needs p t g) (names p t (requirementOf p g))
+  abbrev pub requirementNamed : ℕ → ℕ → Bool
+  requirementNamed t g = implies (needs p t g) (namesRequirement p t (requirementOf p g))
 
-  unfoldable pub allJudged : Bool
-  allJudged = allBelow (λ t. allBelow (judged t) (p .groups)) (p .tasks)
+  unfoldable pub requirementsNamed : Bool
+  requirementsNamed = allBelow (λ t. allBelow (requirementNamed t) (p .groups)) (p .tasks)
 
 -- Checks 7 to 12 in their order. Two of them also have bytes of the file that are always zero, which a record does not keep: 7 those of
 -- the lattice records, 10 those of the others.
 abbrev pub latticeChecks : Bool → Plant → List Test
-latticeChecks z7 p = (not z7 || latticeFails p 7) ⇒ 7 ∷ latticeFails p 8 ⇒ 8 ∷ latticeFails p 9 ⇒ 9 ∷ []
+latticeChecks z7 p = (not z7 || latticeFails p 7) gives 7 ∷ latticeFails p 8 gives 8 ∷ latticeFails p 9 gives 9 ∷ []
 
 abbrev pub itemChecks : Bool → Plant → List Test
-itemChecks z10 p = (not z10 || not (numbersRight p)) ⇒ 10 ∷ not (noTwins p) ⇒ 11 ∷ not (allJudged p) ⇒ 12 ∷ []
+itemChecks z10 p = (not z10 || not (numbersOk p)) gives 10 ∷ not (levelsDistinct p) gives 11 ∷ not (requirementsNamed p) gives 12 ∷ []
 
 abbrev pub recordChecks : Bool → Bool → Plant → List Test
 recordChecks z7 z10 p = latticeChecks z7 p ++ itemChecks z10 p
@@ -133,7 +133,7 @@ itemsRefusal p = first (itemChecks true p)
 
 -- the number that refuses a plant record, or 0
 unfoldable pub plantRefusal : Bool → Bool → Plant → ℕ
-plantRefusal z7 z10 p = first (not (countsIn p) ⇒ 3 ∷ recordChecks z7 z10 p)
+plantRefusal z7 z10 p = first (not (countsIn p) gives 3 ∷ recordChecks z7 z10 p)
 
 -- The same in words. proofs/Sound has that each test means its rule.
 module _ (p : Plant) where
@@ -154,26 +154,26 @@ module _ (p : Plant) where
     pub requirement-in : (g : ℕ) → g < p .groups → requirementOf p g < p .requirements
     pub group-in : (o : ℕ) → o < p .tanks → groupOf p o < p .groups
     pub level-in : (o : ℕ) → o < p .tanks → levelOf p o < levelsOf p (requirementOf p (groupOf p o))
-    pub names-in : (t d : ℕ) → t < p .tasks → names p t d ≡ true → d < p .requirements
-    pub rights-known : (t g r : ℕ) → t < p .tasks → g < 8 → grants p t r g ≡ true → r < rights
+    pub names-in : (t d : ℕ) → t < p .tasks → namesRequirement p t d ≡ true → d < p .requirements
+    pub rights-known : (t g r : ℕ) → t < p .tasks → g < 8 → namesRight p t r g ≡ true → r < rights
     pub rights-in : (t g : ℕ) → t < p .tasks → g < 8 → p .groups ≤ g → rightsOf p t g ≡ 0
     pub may-in : (s t : ℕ) → s < p .skids → mayRun p s t ≡ true → t < p .tasks
 
-  abbrev pub NoTwins : Type 0
-  NoTwins = (a b : ℕ) → a < p .tanks → b < p .tanks → groupOf p a ≡ groupOf p b → levelOf p a ≡ levelOf p b → a ≡ b
+  abbrev pub LevelsDistinct : Type 0
+  LevelsDistinct = (a b : ℕ) → a < p .tanks → b < p .tanks → groupOf p a ≡ groupOf p b → levelOf p a ≡ levelOf p b → a ≡ b
 
-  abbrev pub AllJudged : Type 0
-  AllJudged = (t g r : ℕ) → t < p .tasks → g < p .groups → grants p t r g ≡ true → names p t (requirementOf p g) ≡ true
+  abbrev pub RequirementsNamed : Type 0
+  RequirementsNamed = (t g r : ℕ) → t < p .tasks → g < p .groups → namesRight p t r g ≡ true → namesRequirement p t (requirementOf p g) ≡ true
 
 -- Z7 and Z10 say that the bytes of the file that are always zero are
 abbrev pub recordRules : Type 0 → Type 0 → Plant → List Rule
 recordRules Z7 Z10 p =
-    (Z7 × Layouts p) refused-by 7
-    ∷ Orders p refused-by 8
-    ∷ Lattices p refused-by 9
-    ∷ (Z10 × Numbers p) refused-by 10
-    ∷ NoTwins p refused-by 11
-    ∷ AllJudged p refused-by 12
+    (Z7 × Layouts p) or-else 7
+    ∷ Orders p or-else 8
+    ∷ Lattices p or-else 9
+    ∷ (Z10 × Numbers p) or-else 10
+    ∷ LevelsDistinct p or-else 11
+    ∷ RequirementsNamed p or-else 12
     ∷ []
 
 -- A sound plant record: what test 20 asks of it, one field for each check.
@@ -183,5 +183,5 @@ pub record Sound (p : Plant) : Type 0 where
   pub orders : Orders p
   pub lattices : Lattices p
   pub numbers : Numbers p
-  pub no-twins : NoTwins p
-  pub all-judged : AllJudged p
+  pub levels-distinct : LevelsDistinct p
+  pub requirements-named : RequirementsNamed p

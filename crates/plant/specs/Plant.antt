@@ -40,15 +40,15 @@ abbrev pub levelOf : Plant → ℕ → ℕ
 levelOf p o = getD (p .level) o 0
 
 -- task t names requirement d
-abbrev pub names : Plant → ℕ → ℕ → Bool
-names p t d = bit (getD (p .names) t 0) d
+abbrev pub namesRequirement : Plant → ℕ → ℕ → Bool
+namesRequirement p t d = bit (getD (p .names) t 0) d
 
 -- the rights that task t names on group g, as a set of right numbers; whether it names right r, and whether it names any
 abbrev pub rightsOf : Plant → ℕ → ℕ → ℕ
 rightsOf p t g = getD (p .rights) (t * 8 + g) 0
 
-abbrev pub grants : Plant → ℕ → ℕ → ℕ → Bool
-grants p t r g = bit (rightsOf p t g) r
+abbrev pub namesRight : Plant → ℕ → ℕ → ℕ → Bool
+namesRight p t r g = bit (rightsOf p t g) r
 
 abbrev pub needs : Plant → ℕ → ℕ → Bool
 needs p t g = not (eqb (rightsOf p t g) 0)

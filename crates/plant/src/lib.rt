@@ -6,13 +6,13 @@ ghost use lib.ListN.{getD, replicate};
 ghost use Rattle.base.specs.Below.{allBelow, anyBelow};
 ghost use Rattle.base.specs.Bits.{noneFrom};
 ghost use Rattle.base.specs.Fill.{fill};
-ghost use Rattle.layout.specs.Header.{countRight};
+ghost use Rattle.layout.specs.Header.{countOk};
 ghost use Rattle.plant.specs.Plant.{latticeFrom, groupOf, levelOf, noPlant};
-ghost use Rattle.plant.specs.Checks.{Fits, entryIs, entryBelow, entryClear, countsIn, tankIn, tankRight, rightIn, taskRightIn, taskIn, taskRight, numbersRight, twinsIn, noTwins, judgedIn, allJudged, levelsFrom, levelsByGroup, refusalsOf, firstNumber, latticesRefusal, itemsRefusal, plantRefusal};
+ghost use Rattle.plant.specs.Checks.{Fits, entryIs, entryBelow, entryClear, countsIn, tankIn, tankFits, rightIn, taskFitssIn, taskIn, taskFits, numbersOk, atOneLevelIn, levelsDistinct, requirementNamedIn, requirementsNamed, levelsFrom, levelsByGroup, refusalsOf, firstNumber, latticesRefusal, itemsRefusal, plantRefusal};
 ghost use Rattle.plant.specs.Right.{validRight, maskOf};
 use lattice::Lattice;
 use lattice::refusal_of;
-use layout::count_right;
+use layout::count_ok;
 
 // Everything that opening reads from the file, in flat arrays, since only arrays of numbers can be lent. Entries past the counts are not
 // part of the plant.
@@ -70,9 +70,9 @@ impl Right {
 // 3: the counts.
 fn count_at(counts: &[u8; 6], kind: usize) -> bool
     requires { ⌜ kind < 6 ⌝ }
-    ensures { λ r. ⌜ r ≡ countRight kind (getD (now (counts .entry)) kind 0) ⌝ }
+    ensures { λ r. ⌜ r ≡ countOk kind (getD (now (counts .entry)) kind 0) ⌝ }
 {
-    count_right(kind, wide(counts[kind]))
+    count_ok(kind, wide(counts[kind]))
 }
 
 fn wide(x: u8) -> usize
@@ -175,7 +175,7 @@ fn levels_by_group(p: Plant) -> [u8; 8]
     levels
 }
 
-fn tank_right(group: u8, level: u8, groups: u8, levels: &[u8; 8]) -> bool
+fn tank_fits(group: u8, level: u8, groups: u8, levels: &[u8; 8]) -> bool
     requires { ⌜ groups ≤ 8 ⌝ }
     ensures { λ r. ⌜ r ≡ tankIn (now (levels .entry)) groups group level ⌝ }
 {
@@ -191,18 +191,18 @@ fn tanks_within(p: Plant, levels: &[u8; 8]) -> bool
 {
     let n = p.tanks as usize;
     for o in 0..n {
-        if !tank_right(p.group[o], p.level[o], p.groups, levels) {
+        if !tank_fits(p.group[o], p.level[o], p.groups, levels) {
             return false;
         }
     }
     true
 }
 
-fn tanks_right(p: Plant) -> bool
+fn tanks_fit(p: Plant) -> bool
     requires { ⌜ Fits p ⌝ }
     requires { ⌜ allBelow (entryBelow (p .lattice) (p .lattices)) (p .requirements) ≡ true ⌝ }
     requires { ⌜ allBelow (entryBelow (p .requirement) (p .requirements)) (p .groups) ≡ true ⌝ }
-    ensures { λ r. ⌜ r ≡ allBelow (tankRight p) (p .tanks) ⌝ }
+    ensures { λ r. ⌜ r ≡ allBelow (tankFits p) (p .tanks) ⌝ }
 {
     let levels = levels_by_group(p);
     tanks_within(p, &levels)
@@ -216,7 +216,7 @@ fn none_from(x: u16, n: u8) -> bool
     (x as u32) >> n == 0
 }
 
-fn right_right(x: u8, g: usize, groups: usize) -> bool
+fn right_fits(x: u8, g: usize, groups: usize) -> bool
     ensures { λ r. ⌜ r ≡ rightIn groups g x ⌝ }
 {
     if !none_from(x as u16, 3) {
@@ -228,40 +228,40 @@ fn right_right(x: u8, g: usize, groups: usize) -> bool
     x == 0
 }
 
-fn rights_right(rights: &[u8; 128], groups: usize, t: usize) -> bool
+fn rights_fit(rights: &[u8; 128], groups: usize, t: usize) -> bool
     requires { ⌜ t < 16 ⌝ }
-    ensures { λ r. ⌜ r ≡ allBelow (taskRightIn (now (rights .entry)) groups t) 8 ⌝ }
+    ensures { λ r. ⌜ r ≡ allBelow (taskFitssIn (now (rights .entry)) groups t) 8 ⌝ }
 {
     for g in 0..8 {
-        if !right_right(rights[t * 8 + g], g, groups) {
+        if !right_fits(rights[t * 8 + g], g, groups) {
             return false;
         }
     }
     true
 }
 
-fn task_right(names: u8, rights: &[u8; 128], requirements: u8, groups: usize, t: usize) -> bool
+fn task_fits(names: u8, rights: &[u8; 128], requirements: u8, groups: usize, t: usize) -> bool
     requires { ⌜ (requirements ≤ 16) × (t < 16) ⌝ }
     ensures { λ r. ⌜ r ≡ taskIn names (now (rights .entry)) requirements groups t ⌝ }
 {
-    none_from(names as u16, requirements) && rights_right(rights, groups, t)
+    none_from(names as u16, requirements) && rights_fit(rights, groups, t)
 }
 
-fn tasks_right(p: Plant) -> bool
+fn tasks_fit(p: Plant) -> bool
     requires { ⌜ Fits p ⌝ }
-    ensures { λ r. ⌜ r ≡ allBelow (taskRight p) (p .tasks) ⌝ }
+    ensures { λ r. ⌜ r ≡ allBelow (taskFits p) (p .tasks) ⌝ }
 {
     let n = p.tasks as usize;
     let groups = p.groups as usize;
     for t in 0..n {
-        if !task_right(p.names[t], &p.rights, p.requirements, groups, t) {
+        if !task_fits(p.names[t], &p.rights, p.requirements, groups, t) {
             return false;
         }
     }
     true
 }
 
-fn skids_right(p: Plant) -> bool
+fn skids_fit(p: Plant) -> bool
     requires { ⌜ Fits p ⌝ }
     ensures { λ r. ⌜ r ≡ allBelow (entryClear (p .may) (p .tasks)) (p .skids) ⌝ }
 {
@@ -274,9 +274,9 @@ fn skids_right(p: Plant) -> bool
     true
 }
 
-fn numbers_right(p: Plant) -> bool
+fn numbers_ok(p: Plant) -> bool
     requires { ⌜ Fits p ⌝ }
-    ensures { λ r. ⌜ r ≡ numbersRight p ⌝ }
+    ensures { λ r. ⌜ r ≡ numbersOk p ⌝ }
 {
     let requirements = p.requirements as usize;
     if !all_below(&p.lattice, requirements, p.lattices) {
@@ -286,19 +286,19 @@ fn numbers_right(p: Plant) -> bool
     if !all_below(&p.requirement, groups, p.requirements) {
         return false;
     }
-    if !tanks_right(p) {
+    if !tanks_fit(p) {
         return false;
     }
-    if !tasks_right(p) {
+    if !tasks_fit(p) {
         return false;
     }
-    skids_right(p)
+    skids_fit(p)
 }
 
 // 11: tanks a and b are not of one group at one level.
-fn not_twins<'a>(group: &'a [u8; 64], level: &'a [u8; 64], a: usize, b: usize) -> bool
+fn not_at_one_level<'a>(group: &'a [u8; 64], level: &'a [u8; 64], a: usize, b: usize) -> bool
     requires { ⌜ (a < 64) × (b < 64) ⌝ }
-    ensures { λ r. ⌜ r ≡ not (twinsIn (now (group .entry)) (now (level .entry)) a b) ⌝ }
+    ensures { λ r. ⌜ r ≡ not (atOneLevelIn (now (group .entry)) (now (level .entry)) a b) ⌝ }
 {
     if group[a] != group[b] {
         return true;
@@ -306,25 +306,25 @@ fn not_twins<'a>(group: &'a [u8; 64], level: &'a [u8; 64], a: usize, b: usize) -
     level[a] != level[b]
 }
 
-fn has_no_twin<'a>(group: &'a [u8; 64], level: &'a [u8; 64], a: usize) -> bool
+fn distinct_below<'a>(group: &'a [u8; 64], level: &'a [u8; 64], a: usize) -> bool
     requires { ⌜ a < 64 ⌝ }
-    ensures { λ r. ⌜ r ≡ allBelow (λ b. not (twinsIn (now (group .entry)) (now (level .entry)) a b)) a ⌝ }
+    ensures { λ r. ⌜ r ≡ allBelow (λ b. not (atOneLevelIn (now (group .entry)) (now (level .entry)) a b)) a ⌝ }
 {
     for b in 0..a {
-        if !not_twins(group, level, a, b) {
+        if !not_at_one_level(group, level, a, b) {
             return false;
         }
     }
     true
 }
 
-fn no_twins(p: Plant) -> bool
+fn levels_distinct(p: Plant) -> bool
     requires { ⌜ Fits p ⌝ }
-    ensures { λ r. ⌜ r ≡ noTwins p ⌝ }
+    ensures { λ r. ⌜ r ≡ levelsDistinct p ⌝ }
 {
     let n = p.tanks as usize;
     for a in 0..n {
-        if !has_no_twin(&p.group, &p.level, a) {
+        if !distinct_below(&p.group, &p.level, a) {
             return false;
         }
     }
@@ -332,9 +332,9 @@ fn no_twins(p: Plant) -> bool
 }
 
 // 12: the task names the requirement of group g where it names a right there.
-fn is_judged(names: u8, right: u8, requirement: u8) -> bool
+fn is_named(names: u8, right: u8, requirement: u8) -> bool
     requires { ⌜ requirement < 8 ⌝ }
-    ensures { λ r. ⌜ r ≡ judgedIn names right requirement ⌝ }
+    ensures { λ r. ⌜ r ≡ requirementNamedIn names right requirement ⌝ }
 {
     if right == 0 {
         return true;
@@ -342,7 +342,7 @@ fn is_judged(names: u8, right: u8, requirement: u8) -> bool
     (names >> requirement) % 2 == 1
 }
 
-fn task_judged<'a>(
+fn task_named<'a>(
     names: u8,
     rights: &'a [u8; 128],
     requirement: &'a [u8; 8],
@@ -351,25 +351,25 @@ fn task_judged<'a>(
 ) -> bool
     requires { ⌜ (groups ≤ 8) × (t < 16) ⌝ }
     requires { ⌜ allBelow (entryBelow (now requirement) 8) groups ≡ true ⌝ }
-    ensures { λ r. ⌜ r ≡ allBelow (λ g. judgedIn names (getD (now (rights .entry)) (t * 8 + g) 0) (getD (now (requirement .entry)) g 0)) groups ⌝ }
+    ensures { λ r. ⌜ r ≡ allBelow (λ g. requirementNamedIn names (getD (now (rights .entry)) (t * 8 + g) 0) (getD (now (requirement .entry)) g 0)) groups ⌝ }
 {
     for g in 0..groups {
-        if !is_judged(names, rights[t * 8 + g], requirement[g]) {
+        if !is_named(names, rights[t * 8 + g], requirement[g]) {
             return false;
         }
     }
     true
 }
 
-fn all_judged(p: Plant) -> bool
+fn requirements_named(p: Plant) -> bool
     requires { ⌜ Fits p ⌝ }
     requires { ⌜ allBelow (entryBelow (p .requirement) 8) (p .groups) ≡ true ⌝ }
-    ensures { λ r. ⌜ r ≡ allJudged p ⌝ }
+    ensures { λ r. ⌜ r ≡ requirementsNamed p ⌝ }
 {
     let n = p.tasks as usize;
     let groups = p.groups as usize;
     for t in 0..n {
-        if !task_judged(p.names[t], &p.rights, &p.requirement, groups, t) {
+        if !task_named(p.names[t], &p.rights, &p.requirement, groups, t) {
             return false;
         }
     }
@@ -408,13 +408,13 @@ fn items_refusal(p: Plant) -> u8
     requires { ⌜ Fits p ⌝ }
     ensures { λ r. ⌜ r ≡ itemsRefusal p ⌝ }
 {
-    if !numbers_right(p) {
+    if !numbers_ok(p) {
         return 10;
     }
-    if !no_twins(p) {
+    if !levels_distinct(p) {
         return 11;
     }
-    if !all_judged(p) {
+    if !requirements_named(p) {
         return 12;
     }
     0

@@ -81,8 +81,8 @@ module _ (file : List ℕ) where
         orders = r .1 .0;
         lattices = r .1 .1 .0;
         numbers = r .1 .1 .1 .0;
-        no-twins = r .1 .1 .1 .1 .0;
-        all-judged = r .1 .1 .1 .1 .1 .0;
+        levels-distinct = r .1 .1 .1 .1 .0;
+        requirements-named = r .1 .1 .1 .1 .1 .0;
       }
 
   kept : Admitted file → Keeps (rules file)
@@ -98,7 +98,7 @@ module _ (file : List ℕ) where
             a .inside,
             (
               a .no-shared-byte,
-              (a .layouts, (a .orders, (a .lattices, (a .numbers, (a .no-twins, (a .all-judged, tt)))))),
+              (a .layouts, (a .orders, (a .lattices, (a .numbers, (a .levels-distinct, (a .requirements-named, tt)))))),
             ),
           ),
         ),
@@ -139,8 +139,8 @@ module _ (file : List ℕ) where
     orders = a .orders;
     lattices = a .lattices;
     numbers = a .numbers .1;
-    no-twins = a .no-twins;
-    all-judged = a .all-judged;
+    levels-distinct = a .levels-distinct;
+    requirements-named = a .requirements-named;
   }
 
   given : openingRefusal file ≡ 0 → readingOf file .plant ≡ plantOf file

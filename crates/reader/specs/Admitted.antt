@@ -9,7 +9,7 @@ use Rattle.layout.specs.Layout.{byteAt, wordAt, width, count, part}
 use Rattle.layout.specs.Header.{LengthSaid, CountsInRange, HeaderZeros, SectionsInside, NoSharedByte, placingRules}
 use Rattle.plant.specs.declared.Plant.{Plant}
 use Rattle.plant.specs.Plant.{noPlant}
-use Rattle.plant.specs.Checks.{Layouts, Orders, Lattices, Numbers, NoTwins, AllJudged, recordRules, Sound}
+use Rattle.plant.specs.Checks.{Layouts, Orders, Lattices, Numbers, LevelsDistinct, RequirementsNamed, recordRules, Sound}
 use Rattle.reader.specs.Reading.{plantOf, readingOf}
 
 -- The plant has the file's counts, and within them its items are the file's records, read from the part that their section fills.
@@ -53,8 +53,8 @@ pub record Admitted (file : List ℕ) : Type 0 where
   pub orders : Orders (plantOf file)
   pub lattices : Lattices (plantOf file)
   pub numbers : OtherZeros file × Numbers (plantOf file)
-  pub no-twins : NoTwins (plantOf file)
-  pub all-judged : AllJudged (plantOf file)
+  pub levels-distinct : LevelsDistinct (plantOf file)
+  pub requirements-named : RequirementsNamed (plantOf file)
 
 -- What demands 1 and 2 say of the reader, for any bytes.
 pub record Opening (file : List ℕ) : Type 0 where

@@ -4,7 +4,7 @@ ghost use mathlib.Core.Bool.{Bool};
 ghost use Prim.Native.Nat.{ℕ, _+_, _*_, _<_, _≤_};
 ghost use lib.ListN.{length, replicate};
 ghost use Rattle.layout.specs.Layout.{width, limit, count, part, Cells, bytesOf, wordsOf};
-ghost use Rattle.layout.specs.Header.{placed};
+ghost use Rattle.layout.specs.Header.{placingRefusal};
 ghost use Rattle.plant.specs.Plant.{noPlant};
 ghost use Rattle.reader.specs.Reading.{bytes, words, plantOf, zeros, latticeZeros, otherZeros, refusedWith, readingOf};
 use layout::bytes_into;
@@ -46,7 +46,7 @@ fn no_plant() -> Plant
 
 // The cells of a section, into an array that holds zeros past the counts.
 fn read_bytes(file: &[u8], kind: usize, from: usize, run: usize, out: &mut [u8])
-    requires { ⌜ (placed (now file) ≡ 0) × (kind < 6) ⌝ }
+    requires { ⌜ (placingRefusal (now file) ≡ 0) × (kind < 6) ⌝ }
     requires { ⌜ (0 < run) × (from + run ≤ width kind) ⌝ }
     requires { ⌜ count (now file) kind * run ≤ length (now out) ⌝ }
     ensures { λ r. ⌜ now (out .exit) ≡ bytesOf (part (now (file .entry)) kind) (width kind) from run (count (now (file .entry)) kind) (now (out .entry)) ⌝ }
@@ -57,7 +57,7 @@ fn read_bytes(file: &[u8], kind: usize, from: usize, run: usize, out: &mut [u8])
 }
 
 fn read_words(file: &[u8], kind: usize, from: usize, run: usize, out: &mut [u16])
-    requires { ⌜ (placed (now file) ≡ 0) × (kind < 6) ⌝ }
+    requires { ⌜ (placingRefusal (now file) ≡ 0) × (kind < 6) ⌝ }
     requires { ⌜ (0 < run) × (from + run * 2 ≤ width kind) ⌝ }
     requires { ⌜ count (now file) kind * run ≤ length (now out) ⌝ }
     ensures { λ r. ⌜ now (out .exit) ≡ wordsOf (part (now (file .entry)) kind) (width kind) from run (count (now (file .entry)) kind) (now (out .entry)) ⌝ }
@@ -69,7 +69,7 @@ fn read_words(file: &[u8], kind: usize, from: usize, run: usize, out: &mut [u16]
 
 // Whether byte `from` of each record of a section is zero.
 fn read_zeros(file: &[u8], kind: usize, from: usize) -> bool
-    requires { ⌜ (placed (now file) ≡ 0) × (kind < 6) ⌝ }
+    requires { ⌜ (placingRefusal (now file) ≡ 0) × (kind < 6) ⌝ }
     requires { ⌜ from + 1 ≤ width kind ⌝ }
     ensures { λ r. ⌜ r ≡ zeros (now (file .entry)) kind from ⌝ }
 {
@@ -80,7 +80,7 @@ fn read_zeros(file: &[u8], kind: usize, from: usize) -> bool
 
 // Byte 0 of each lattice, requirement or group.
 fn read_eight(file: &[u8], kind: usize) -> [u8; 8]
-    requires { ⌜ placed (now file) ≡ 0 ⌝ }
+    requires { ⌜ placingRefusal (now file) ≡ 0 ⌝ }
     requires { ⌜ (kind < 6) × (limit kind ≤ 8) ⌝ }
     ensures { λ r. ⌜ r ≡ bytes (now (file .entry)) kind 0 1 8 ⌝ }
 {
@@ -91,7 +91,7 @@ fn read_eight(file: &[u8], kind: usize) -> [u8; 8]
 
 // Each tank's group, or its level.
 fn read_tanks(file: &[u8], from: usize) -> [u8; 64]
-    requires { ⌜ placed (now file) ≡ 0 ⌝ }
+    requires { ⌜ placingRefusal (now file) ≡ 0 ⌝ }
     requires { ⌜ from < 2 ⌝ }
     ensures { λ r. ⌜ r ≡ bytes (now (file .entry)) 3 from 1 64 ⌝ }
 {
@@ -101,7 +101,7 @@ fn read_tanks(file: &[u8], from: usize) -> [u8; 64]
 }
 
 fn read_names(file: &[u8]) -> [u8; 16]
-    requires { ⌜ placed (now file) ≡ 0 ⌝ }
+    requires { ⌜ placingRefusal (now file) ≡ 0 ⌝ }
     ensures { λ r. ⌜ r ≡ bytes (now (file .entry)) 4 0 1 16 ⌝ }
 {
     let mut out = [0u8; 16];
@@ -110,7 +110,7 @@ fn read_names(file: &[u8]) -> [u8; 16]
 }
 
 fn read_rights(file: &[u8]) -> [u8; 128]
-    requires { ⌜ placed (now file) ≡ 0 ⌝ }
+    requires { ⌜ placingRefusal (now file) ≡ 0 ⌝ }
     ensures { λ r. ⌜ r ≡ bytes (now (file .entry)) 4 2 8 128 ⌝ }
 {
     let mut out = [0u8; 128];
@@ -119,7 +119,7 @@ fn read_rights(file: &[u8]) -> [u8; 128]
 }
 
 fn read_sets(file: &[u8]) -> [u16; 128]
-    requires { ⌜ placed (now file) ≡ 0 ⌝ }
+    requires { ⌜ placingRefusal (now file) ≡ 0 ⌝ }
     ensures { λ r. ⌜ r ≡ words (now (file .entry)) 0 2 16 128 ⌝ }
 {
     let mut out = [0u16; 128];
@@ -128,7 +128,7 @@ fn read_sets(file: &[u8]) -> [u16; 128]
 }
 
 fn read_skids(file: &[u8]) -> [u16; 8]
-    requires { ⌜ placed (now file) ≡ 0 ⌝ }
+    requires { ⌜ placingRefusal (now file) ≡ 0 ⌝ }
     ensures { λ r. ⌜ r ≡ words (now (file .entry)) 5 0 1 8 ⌝ }
 {
     let mut out = [0u16; 8];
@@ -138,7 +138,7 @@ fn read_skids(file: &[u8]) -> [u16; 8]
 
 // The plant that the records make.
 fn plant_from(file: &[u8]) -> Plant
-    requires { ⌜ placed (now file) ≡ 0 ⌝ }
+    requires { ⌜ placingRefusal (now file) ≡ 0 ⌝ }
     ensures { λ r. ⌜ r ≡ plantOf (now (file .entry)) ⌝ }
 {
     Plant {
@@ -161,7 +161,7 @@ fn plant_from(file: &[u8]) -> Plant
 }
 
 fn other_zeros(file: &[u8]) -> bool
-    requires { ⌜ placed (now file) ≡ 0 ⌝ }
+    requires { ⌜ placingRefusal (now file) ≡ 0 ⌝ }
     ensures { λ r. ⌜ r ≡ otherZeros (now (file .entry)) ⌝ }
 {
     if !read_zeros(file, 1, 1) {

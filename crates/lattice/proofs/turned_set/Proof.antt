@@ -14,12 +14,12 @@ use Rattle.lattice.proofs.turned_set.Statement.{statement}
 use Rattle.lattice.proofs.turned_set.Tie as tie
 
 -- bit i, moved to its place, loses nothing
-placed : (s : List ℕ) (j i : ℕ) → i < 16 → (turnedBit s j i * 2 ^ i) % 65536 ≡ turnedBit s j i * 2 ^ i
-placed s j i l = shl-exact 1 i 16 (turned-small s j i) (omega arith)
+placingRefusal : (s : List ℕ) (j i : ℕ) → i < 16 → (turnedBit s j i * 2 ^ i) % 65536 ≡ turnedBit s j i * 2 ^ i
+placingRefusal s j i l = shl-exact 1 i 16 (turned-small s j i) (omega arith)
 
 module _ (s : List ℕ) (j i x : ℕ) (l : i < 16) (e : x ≡ gather (turnedBit s j) i) where
   next : x + (turnedBit s j i * 2 ^ i) % 65536 ≡ gather (turnedBit s j) (i + 1)
-  next = rw (placed s j i l) (gather-more (turnedBit s j) i e)
+  next = rw (placingRefusal s j i l) (gather-more (turnedBit s j) i e)
 
   fits : x + (turnedBit s j i * 2 ^ i) % 65536 < 65536
   fits = rw next (lt-of-lt-of-le (gather-lt (turnedBit s j) (turned-small s j) (i + 1)) (pow-mono (let b : i + 1 ≤ 16 = omega arith in b)))

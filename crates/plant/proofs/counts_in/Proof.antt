@@ -6,13 +6,13 @@ use lib.ListN.{getD}
 use Rattle.base.specs.Below.{allBelow, anyBelow}
 use Rattle.base.proofs.Scan.{scan}
 use Rattle.plant.specs.Checks.{countsIn}
-use Rattle.layout.specs.Header.{countRight}
+use Rattle.layout.specs.Header.{countOk}
 use borrow.Author.Needs.{needs}
 use Rattle.plant.proofs.counts_in.Statement.{statement}
 use Rattle.plant.proofs.counts_in.Tie as tie
 
 abbrev Inv-loop : tie.InvT-loop
-Inv-loop counts kind₀ kind = (kind ≤ 6) × (allBelow (λ (k : ℕ). countRight k (getD counts k 0)) kind ≡ true)
+Inv-loop counts kind₀ kind = (kind ≤ 6) × (allBelow (λ (k : ℕ). countOk k (getD counts k 0)) kind ≡ true)
 
 abbrev μ-loop : tie.MeasureT-loop
 μ-loop counts kind₀ kind = 6 - kind

@@ -15,9 +15,9 @@ returns-2 : tie.Need-returns-2
 unfolding itemsRefusal
 returns-2 c = search checks depth 8
 
-all-judged-requires : tie.Need-all-judged-requires
+requirements-named-requires : tie.Need-requirements-named-requires
 unfolding itemsRefusal
-all-judged-requires c κs = (search needs, requirements-fit-set _ (search needs) (held _ (c .before .before .before .numbers-right .ensures) (c .before .before .if1 .left)))
+requirements-named-requires c κs = (search needs, requirements-fit-set _ (search needs) (held _ (c .before .before .before .numbers-ok .ensures) (c .before .before .if1 .left)))
 
 returns-3 : tie.Need-returns-3
 unfolding itemsRefusal
@@ -31,4 +31,4 @@ pub items-refusal-spec : {M : Type 1} → statement M
 unfolding itemsRefusal
 items-refusal-spec =
     tie.close
-    (tie.spec (λ c κs. search needs) returns (λ c κs. search needs) returns-2 all-judged-requires returns-3 returns-4)
+    (tie.spec (λ c κs. search needs) returns (λ c κs. search needs) returns-2 requirements-named-requires returns-3 returns-4)

@@ -1,0 +1,13 @@
+pub mod Pairs
+pub mod Accepted
+pub mod Flat
+pub mod Refine
+pub mod Past
+pub mod Kept
+pub mod Rights
+pub mod Gives
+pub mod Intact
+pub mod Agree
+pub mod Strike
+pub mod Lists
+pub mod Demand

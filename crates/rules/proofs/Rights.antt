@@ -1,0 +1,79 @@
+-- What the history's views say is what 01's words for the history say. Assumes nothing.
+use mathlib.Core.Path.{_≡_, refl, sym, ap, ap₂, _∙_, subst}
+use mathlib.Core.Logic.{_↔_, _≢_}
+use Prim.Native.Nat.{ℕ, zero, suc, _+_, _*_, _/_, _%_, _^_, _≤_, _<_}
+use native.Mathlib.Omega.{arith}
+use native.Mathlib.Decide.{ℕ-discrete}
+use mathlib.Core.Bool.{Bool, true, false, cond, not, _&&_}
+use mathlib.Core.List.{List, [], _∷_, _++_}
+use lib.ListN.{getD}
+use lib.Dec.{eqb, ltb}
+use borrow.Author.Tests.{eqb-true, eqb-false, eq-eqb, ne-eqb, ltb-true, lt-ltb, not-true, not-false}
+use Rattle.plant.specs.declared.Plant.{Plant}
+use Rattle.choice.specs.Choice.{unset}
+use Rattle.plant.specs.Plant.{namesRight, needs, groupOf}
+use Rattle.base.specs.Bits.{bit}
+use Rattle.plant.specs.Valid.{Valid}
+use Rattle.plant.specs.Checks.{Fits}
+use Rattle.choice.specs.Choice.{Choice, served, choice}
+use Rattle.rules.specs.Rules.{Call, set, start, stop, gate, unknown, skidOf, View, refusal, answer, granted, holds, pickFor, lacking}
+use Rattle.rules.specs.History.{levelIn, Started, idle, since, startIn, taskOf, tankOf, past, note, history}
+use Rattle.rules.specs.Rights.{Unstopped, Runs, Gives}
+use Rattle.base.proofs.Logic.{split, true-false, and-true, and-intro}
+use Rattle.base.proofs.Below.{any-no}
+use Rattle.rules.proofs.Kept.{AllAccepted, sound-after}
+use Rattle.rules.proofs.Accepted.{StartOk, start-ok}
+use Rattle.choice.proofs.Choice.{choice-iff, choice-is, choice-none}
+
+zero-one : _≡_ {A = ℕ} 0 1 → ⊥
+zero-one e = omega arith
+
+-- the latest start that no stop followed, found by walking the list
+runs-more : (c : Call) (a : List Call) (s t : ℕ) (b : List Call) → c ≢ stop s → Runs a s t b → Runs (c ∷ a) s t b
+runs-more c a s t b n R = record { later = c ∷ R .later; parts = ap (λ l. c ∷ l) (R .parts); unstopped = (n, R .unstopped) }
+
+pub started-runs : (a : List Call) (s t : ℕ) (b : List Call) → startIn a s ≡ since t b → Runs a s t b
+unfolding startIn
+started-runs [] s t b e = absurd (zero-one (cc))
+started-runs (set s′ t′ d v ∷ a) s t b e = runs-more _ a s t b (λ z. zero-one (cc)) (started-runs a s t b e)
+started-runs (start s′ t′ ∷ a) s t b e = split (eqb s s′)
+    (λ y. let h : since t′ a ≡ since t b = rw y at e in
+    let i = eqb-true s s′ y in
+    record { later = []; parts = cc; unstopped = tt })
+    (λ n. runs-more _ a s t b (λ z. zero-one (cc)) (started-runs a s t b (rw n at e)))
+started-runs (stop s′ ∷ a) s t b e = split (eqb s s′)
+    (λ y. absurd (zero-one (cc)))
+    (λ n. runs-more _ a s t b (λ z. eqb-false s s′ n (cc)) (started-runs a s t b (rw n at e)))
+started-runs (gate s′ o r ∷ a) s t b e = runs-more _ a s t b (λ z. zero-one (cc)) (started-runs a s t b e)
+started-runs (unknown ∷ a) s t b e = runs-more _ a s t b (λ z. zero-one (cc)) (started-runs a s t b e)
+
+module _ (P : Plant) (C : Fits P) where
+  -- an accepted start, seen from later
+  pub start-was : (l : List Call) (s t : ℕ) (b : List Call) → AllAccepted P (l ++ (start s t ∷ b)) → StartOk P (past P b) s t
+  start-was l s t b S = start-ok P (past P b) s t (sound-after P l (start s t ∷ b) S .0)
+
+  runs-on : (l : List Call) (s t : ℕ) (b : List Call) → AllAccepted P (l ++ (start s t ∷ b)) → Unstopped s l → startIn (l ++ (start s t ∷ b)) s ≡ since t b
+  unfolding startIn past
+  runs-on [] s t b S u = rw (eq-eqb s s refl)
+  runs-on (set s′ t′ d v ∷ l) s t b S u = runs-on l s t b (S .1) (u .1)
+  runs-on (start s′ t′ ∷ l) s t b S u =
+      let h = runs-on l s t b (S .1) (u .1) in
+      split (eqb s s′)
+      (λ y. let i = eqb-true s s′ y in
+      let k : taskOf (startIn (l ++ (start s t ∷ b)) s′) ≡ unset = start-ok P (past P (l ++ (start s t ∷ b))) s′ t′ (S .0) .idle in
+      let z : t ≡ unset = cc in
+      absurd (omega (arith, start-was l s t b (S .1))))
+      (λ n. rw n h)
+  runs-on (stop s′ ∷ l) s t b S u = rw (ne-eqb s s′ (λ z. u .0 (cc))) (runs-on l s t b (S .1) (u .1))
+  runs-on (gate s′ o r ∷ l) s t b S u = runs-on l s t b (S .1) (u .1)
+  runs-on (unknown ∷ l) s t b S u = runs-on l s t b (S .1) (u .1)
+
+  pub runs-started : (a : List Call) (s t : ℕ) (b : List Call) → AllAccepted P a → Runs a s t b → startIn a s ≡ since t b
+  runs-started a s t b S R = rw (R .parts) (runs-on (R .later) s t b (rw (R .parts) at S) (R .unstopped))
+
+  -- at most one task, and one start of it
+  pub one-task : (a : List Call) (s t t′ : ℕ) (b b′ : List Call) → AllAccepted P a → Runs a s t b → Runs a s t′ b′ → (t ≡ t′) × (b ≡ b′)
+  one-task a s t t′ b b′ S R R′ =
+      let p = runs-started a s t b S R in
+      let q = runs-started a s t′ b′ S R′ in
+      (cc, cc)

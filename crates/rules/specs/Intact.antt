@@ -1,0 +1,34 @@
+-- Test 20: what a monitor's record must be like before a call looks at it. A record can come from anywhere, so every call asks this first.
+use mathlib.Core.Path.{_≡_}
+use mathlib.Core.Logic.{_⊎_}
+use Prim.Native.Nat.{ℕ, _<_}
+use mathlib.Core.Bool.{Bool, true, not, _&&_, _||_}
+use lib.Dec.{eqb, ltb}
+use Rattle.base.specs.Below.{allBelow}
+use Rattle.plant.specs.declared.Plant.{Plant}
+use Rattle.plant.specs.Plant.{levelsOf, groupOf, needs, mayRun}
+use Rattle.choice.specs.Choice.{unset}
+use Rattle.rules.specs.Rules.{View}
+
+module _ (P : Plant) where
+  -- a level is unset or one of its lattice
+  unfoldable pub levelOk : View → ℕ → ℕ → Bool
+  levelOk w t d = eqb (w .level t d) unset || ltb (w .level t d) (levelsOf P d)
+
+  -- a running task is none or one that the skid may run
+  unfoldable pub taskOk : ℕ → View → Bool
+  taskOk s w = eqb (w .running) unset || (ltb (w .running) (P .tasks) && mayRun P s (w .running))
+
+  -- where the running task has a right, the chosen tank is one of that group
+  unfoldable pub tankOk : View → ℕ → Bool
+  tankOk w g = eqb (w .running) unset || (not (needs P (w .running) g) || (ltb (w .chosen g) (P .tanks) && eqb (groupOf P (w .chosen g)) g))
+
+  -- the view of skid s passes, in the items within the counts
+  unfoldable pub intactView : ℕ → View → Bool
+  intactView s w = allBelow (λ t. allBelow (λ d. levelOk w t d) (P .requirements)) (P .tasks) && (taskOk s w && allBelow (λ g. tankOk w g) (P .groups))
+
+-- The same in words. proofs/Intact has that the test means this.
+pub record IntactView (P : Plant) (s : ℕ) (w : View) : Type 0 where
+  pub levels-known : (t d : ℕ) → t < P .tasks → d < P .requirements → (w .level t d ≡ unset) ⊎ (w .level t d < levelsOf P d)
+  pub task-allowed : (w .running ≡ unset) ⊎ ((w .running < P .tasks) × (mayRun P s (w .running) ≡ true))
+  pub tanks-of-group : (g : ℕ) → g < P .groups → (w .running ≡ unset → ⊥) → needs P (w .running) g ≡ true → (w .chosen g < P .tanks) × (groupOf P (w .chosen g) ≡ g)

@@ -1,0 +1,6 @@
+pub mod Rules
+pub mod Intact
+pub mod Record
+pub mod History
+pub mod Rights
+pub mod Demand
