@@ -13,29 +13,29 @@ use Rattle.layout.specs.Layout.{byteAt, wordAt, sections, headerBytes, f
 unfoldable pub lengthOk : List ℕ → Bool
 lengthOk file = leb headerBytes (length file) && (leb (length file) fileLimit && eqb (wordAt file 20) (length file))
 
--- 2: the edition
+-- 2: the edition. A file of another layout must not be read by this one.
 unfoldable pub editionOk : List ℕ → Bool
 editionOk file = eqb (byteAt file 0) 1
 
--- 3: a count within its range. None is 0, so no section is empty.
+-- 3: a count within its range, since the record has room for no more. None is 0, so no section is empty.
 unfoldable pub countOk : ℕ → ℕ → Bool
 countOk k c = leb 1 c && leb c (limit k)
 
 unfoldable pub countsOk : List ℕ → Bool
 countsOk file = allBelow (λ k. countOk k (count file k)) sections
 
--- 4: the bytes of the header that are always zero
+-- 4: the bytes of the header that are always zero, so that a header has one form only and a later edition can use them
 unfoldable pub zerosOk : List ℕ → Bool
 zerosOk file = eqb (byteAt file 7) 0 && (eqb (byteAt file 22) 0 && eqb (byteAt file 23) 0)
 
--- 5: section k begins behind the header and ends within the file. It may begin at 24 and end at the file's end.
+-- 5: section k begins behind the header and ends within the file, so that no record is read from the header or from nowhere. It may begin at 24 and end at the file's end.
 unfoldable pub inside : List ℕ → ℕ → Bool
 inside file k = leb headerBytes (offset file k) && leb (end file k) (length file)
 
 unfoldable pub allInside : List ℕ → Bool
 allInside file = allBelow (inside file) sections
 
--- 6: sections i and j share no byte. One may begin where the other ends.
+-- 6: sections i and j share no byte, so that mending one section cannot change another. One may begin where the other ends.
 unfoldable pub apart : List ℕ → ℕ → ℕ → Bool
 apart file i j = leb (end file i) (offset file j) || leb (end file j) (offset file i)
 

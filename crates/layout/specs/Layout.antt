@@ -1,4 +1,4 @@
--- The layout of a plant file, edition 1: the header, the six sections, and where each record's cells stand. The reader, the section call and every writer of plant files cite these definitions.
+-- The layout of a plant file, edition 1: the header, the six sections, and where each record's cells stand. Whatever reads or writes plant files cites these definitions.
 use Prim.Native.Nat.{ℕ, _+_, _*_, _/_, _%_, _<_, _≤_}
 use mathlib.Core.List.{List, [], _∷_}
 use lib.ListN.{getD, take, drop, replicate}

@@ -22,9 +22,9 @@ use Rattle.lattice.proofs.Verdict.{verdict, refusal-zero}
 use Rattle.lattice.proofs.Laws.{layout-iff, order-iff}
 use Rattle.layout.specs.Header.{countOk}
 use Rattle.plant.specs.declared.Plant.{Plant}
-use Rattle.plant.specs.Plant.{latticeAt, countsOf, requirementOf, groupOf, levelOf, levelsOf, latticeOf, namesRequirement, rightsOf, needs}
+use Rattle.plant.specs.Plant.{latticeAt, countsOf, requirementOf, groupOf, levelOf, sameLevel, levelsOf, latticeOf, namesRequirement, rightsOf, needs}
 use Rattle.plant.specs.Right.{rights}
-use Rattle.plant.specs.Checks.{entryBelow, entryClear, countsIn, latticeFails, tankFits, rightIn, taskFitssIn, taskFits, numbersOk, atOneLevel, levelsDistinct, requirementNamed, requirementsNamed, recordChecks, plantRefusal, Counts, Layouts, Orders, Lattices, Numbers, recordRules, Sound}
+use Rattle.plant.specs.Checks.{entryBelow, entryClear, countsIn, latticeFails, tankFits, rightIn, taskFitssIn, taskFits, numbersOk, atOneLevel, levelsDistinct, requirementNamed, requirementsNamed, recordChecks, plantRefusal, Counts, Layouts, Orders, Lattices, Numbers, LevelsDistinct, RequirementsNamed, recordRules, Sound}
 use Rattle.plant.proofs.Sequence.{count-in}
 use Rattle.plant.proofs.Links.{entry-at}
 
@@ -125,28 +125,28 @@ module _ (p : Plant) where
       (all-yes (p .skids) _ (λ x l. clear-yes (p .tasks) (getD (p .may) x 0) (λ t b. n .may-in x t l b))))))
 
   -- tanks
-  distinct-at : levelsDistinct p ≡ true → (a b : ℕ) → a < p .tanks → b < a → groupOf p a ≡ groupOf p b → levelOf p a ≡ levelOf p b → ⊥
+  distinct-at : levelsDistinct p ≡ true → (a b : ℕ) → a < p .tanks → b < a → groupOf p a ≡ groupOf p b → sameLevel p (groupOf p a) a b ≡ true → ⊥
   unfolding levelsDistinct
   distinct-at e a b l m g v =
-      true-false (sym (and-both _ _ (eq-eqb _ _ g) (eq-eqb _ _ v)) ∙ not-true (atOneLevel p a b) (all-at a (λ (x : ℕ). not (atOneLevel p a x)) (all-at (p .tanks) (λ (y : ℕ). allBelow (λ (x : ℕ). not (atOneLevel p y x)) y) e a l) b m))
+      true-false (sym (and-both _ _ (eq-eqb _ _ g) v) ∙ not-true (atOneLevel p a b) (all-at a (λ (x : ℕ). not (atOneLevel p a x)) (all-at (p .tanks) (λ (y : ℕ). allBelow (λ (x : ℕ). not (atOneLevel p y x)) y) e a l) b m))
 
-  distinct-words : levelsDistinct p ≡ true → (a b : ℕ) → a < p .tanks → b < p .tanks → groupOf p a ≡ groupOf p b → levelOf p a ≡ levelOf p b → a ≡ b
+  distinct-words : levelsDistinct p ≡ true → LevelsDistinct p
   distinct-words e a b l m g v = elim (decLt b a) [
     | yes x ↦ absurd (distinct-at e a b l x g v)
     | no x ↦ elim (decLt a b) [
-      | yes y ↦ absurd (distinct-at e b a m y (sym g) (sym v))
+      | yes y ↦ absurd (distinct-at e b a m y (sym g) (eq-eqb (levelOf p b) (levelOf p a) (sym (eqb-true (levelOf p a) (levelOf p b) v))))
       | no y ↦ omega arith
     ]
   ]
 
-  distinct-back : ((a b : ℕ) → a < p .tanks → b < p .tanks → groupOf p a ≡ groupOf p b → levelOf p a ≡ levelOf p b → a ≡ b) → levelsDistinct p ≡ true
+  distinct-back : LevelsDistinct p → levelsDistinct p ≡ true
   unfolding levelsDistinct
   distinct-back f =
       all-yes (p .tanks) _ (λ a l. all-yes a _ (λ b m.
       split (atOneLevel p a b)
       (λ e.
       let q = and-true (eqb (groupOf p a) (groupOf p b)) (eqb (levelOf p a) (levelOf p b)) e in
-      let z : a ≡ b = f a b l (omega arith) (eqb-true _ _ (q .0)) (eqb-true _ _ (q .1)) in
+      let z : a ≡ b = f a b l (omega arith) (eqb-true _ _ (q .0)) (q .1) in
       absurd (omega arith))
       (λ e. rw e)))
 

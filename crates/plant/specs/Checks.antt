@@ -83,7 +83,7 @@ module _ (p : Plant) where
   unfoldable pub latticeFails : ℕ → Bool
   latticeFails k = anyBelow (λ l. eqb (refusal (latticeAt p l)) k) (p .lattices)
 
-  -- 10: every number is below its count, every level below the n of its lattice, every bit below its count. A tank is judged in the
+  -- 10: whatever names another item names one that is there: every number is below its count, every level below the n of its lattice, every bit below its count. A tank is judged in the
   -- lattice of its group's requirement.
   abbrev pub tankFits : ℕ → Bool
   tankFits o = ltb (groupOf p o) (p .groups) && ltb (levelOf p o) (levelsOf p (requirementOf p (groupOf p o)))
@@ -99,15 +99,15 @@ module _ (p : Plant) where
       && (allBelow taskFits (p .tasks)
       && allBelow (entryClear (p .may) (p .tasks)) (p .skids))))
 
-  -- 11: no two tanks of one group at one level. In another group the same level is right.
+  -- 11: no two tanks of one group at one level; the article says so in its prose alone. In another group the same level is right.
   abbrev pub atOneLevel : ℕ → ℕ → Bool
   atOneLevel a b = eqb (groupOf p a) (groupOf p b) && sameLevel p (groupOf p a) a b
 
   unfoldable pub levelsDistinct : Bool
   levelsDistinct = allBelow (λ a. allBelow (λ b. not (atOneLevel a b)) a) (p .tanks)
 
-  -- 12: a task names the requirement of each group on which it names a right. The article ties the two nowhere; without it a skid could
-  -- start on a group for which no level is asked.
+  -- 12: a task names the requirement of each group on which it names a right. The article uses a task's requirements in no rule; with
+  -- this they cover every requirement by which its tanks are judged.
   abbrev pub requirementNamed : ℕ → ℕ → Bool
   requirementNamed t g = implies (needs p t g) (namesRequirement p t (requirementOf p g))
 
@@ -160,7 +160,7 @@ module _ (p : Plant) where
     pub may-in : (s t : ℕ) → s < p .skids → mayRun p s t ≡ true → t < p .tasks
 
   abbrev pub LevelsDistinct : Type 0
-  LevelsDistinct = (a b : ℕ) → a < p .tanks → b < p .tanks → groupOf p a ≡ groupOf p b → levelOf p a ≡ levelOf p b → a ≡ b
+  LevelsDistinct = (a b : ℕ) → a < p .tanks → b < p .tanks → groupOf p a ≡ groupOf p b → sameLevel p (groupOf p a) a b ≡ true → a ≡ b
 
   abbrev pub RequirementsNamed : Type 0
   RequirementsNamed = (t g r : ℕ) → t < p .tasks → g < p .groups → namesRight p t r g ≡ true → namesRequirement p t (requirementOf p g) ≡ true

@@ -1,6 +1,7 @@
 // The plant's record, the rights, and opening's checks 3 and 7 to 12 on a record.
 ghost use mathlib.Core.Path.{_≡_};
 ghost use mathlib.Core.Bool.{true, not};
+ghost use mathlib.Core.List.{[], _∷_};
 ghost use Prim.Native.Nat.{ℕ, _+_, _*_, _<_, _≤_};
 ghost use lib.ListN.{getD, replicate};
 ghost use Rattle.base.specs.Below.{allBelow, anyBelow};
@@ -9,7 +10,7 @@ ghost use Rattle.base.specs.Fill.{fill};
 ghost use Rattle.layout.specs.Header.{countOk};
 ghost use Rattle.plant.specs.Plant.{latticeFrom, groupOf, levelOf, noPlant};
 ghost use Rattle.plant.specs.Checks.{Fits, entryIs, entryBelow, entryClear, countsIn, tankIn, tankFits, rightIn, taskFitssIn, taskIn, taskFits, numbersOk, atOneLevelIn, levelsDistinct, requirementNamedIn, requirementsNamed, levelsFrom, levelsByGroup, refusalsOf, firstNumber, latticesRefusal, itemsRefusal, plantRefusal};
-ghost use Rattle.plant.specs.Right.{validRight, maskOf};
+ghost use Rattle.plant.specs.Right.{draw, return, sample, validRight, maskOf};
 use lattice::Lattice;
 use lattice::refusal_of;
 use layout::count_ok;
@@ -53,17 +54,24 @@ impl Right {
     pub fn valid(r: u8) -> bool
         ensures { λ x. ⌜ x ≡ validRight r ⌝ }
     {
-        r < 3
+        r <= Right::SAMPLE
     }
 
     // The bit of a right in a set of rights; what is no right has none.
     pub fn mask(r: u8) -> u8
         ensures { λ x. ⌜ x ≡ maskOf r ⌝ }
     {
-        if 3 <= r {
+        if Right::SAMPLE < r {
             return 0;
         }
         1 << r
+    }
+
+    // The three rights by their numbers.
+    pub fn numbers() -> [u8; 3]
+        ensures { λ x. ⌜ x ≡ draw ∷ return ∷ sample ∷ [] ⌝ }
+    {
+        [Right::DRAW, Right::RETURN, Right::SAMPLE]
     }
 }
 

@@ -23,7 +23,7 @@ use Rattle.plant.specs.Plant.{noPlant}
 use Rattle.plant.specs.Checks.{recordChecks, recordRules, Sound}
 use Rattle.plant.proofs.Sequence.{count-in}
 use Rattle.plant.proofs.Sound.{record-means}
-use Rattle.reader.specs.Reading.{plantOf, zeros, latticeZeros, otherZeros, opening, openingRefusal, readingOf}
+use Rattle.reader.specs.Reading.{plantOf, zeros, latticeZeros, otherZeros, openingChecks, openingRefusal, readingOf}
 use Rattle.reader.proofs.Sequence.{counts-same}
 use Rattle.reader.specs.Admitted.{Holds, ZeroByte, OtherZeros, rules, Admitted, Opening}
 
@@ -52,7 +52,7 @@ module _ (file : List ℕ) where
   lattice-zeros = (zero-words 0, zero-back 0)
 
   -- each of the twelve tests means its rule
-  opening-means : Means (opening file) (rules file)
+  opening-means : Means (openingChecks file) (rules file)
   opening-means =
       means-append (placing file) (recordChecks (latticeZeros file) (otherZeros file) (plantOf file)) (placingRules file) (recordRules (ZeroByte file 0) (OtherZeros file) (plantOf file))
       (placing-means file) (λ _. record-means (plantOf file) (latticeZeros file) (otherZeros file) lattice-zeros other-zeros)
@@ -60,12 +60,12 @@ module _ (file : List ℕ) where
   law : (openingRefusal file ≡ 0) ↔ Keeps (rules file)
   unfolding openingRefusal
   law =
-      means-zero (opening file) (rules file)
+      means-zero (openingChecks file) (rules file)
       (refl, (refl, (refl, (refl, (refl, (refl, (refl, (refl, (refl, (refl, (refl, (refl, tt)))))))))))) opening-means
 
-  number-law : (k : ℕ) → (_≡_ {A = ℕ} 0 k → ⊥) → (openingRefusal file ≡ k) ↔ Breaks (rules file) k
+  number-law : (k : ℕ) → 1 ≤ k → (openingRefusal file ≡ k) ↔ Breaks (rules file) k
   unfolding openingRefusal
-  number-law k z = means-number (opening file) (rules file) k z opening-means
+  number-law k l = means-number (openingChecks file) (rules file) k (λ z. omega (arith, z)) opening-means
 
   admitted : Keeps (rules file) → Admitted file
   admitted k =
@@ -156,6 +156,7 @@ unfolding readingOf
 opens file = record {
   accepts = ((λ e. admitted file (law file .0 e)), (λ a. law file .1 (kept file a)));
   refuses = number-law file;
+  records = holds file;
   holds = λ a. subst (λ (p : Plant). Holds file p) (accepted file a) (holds file (a .counts));
   sound = λ a. subst (λ (p : Plant). Sound p) (accepted file a) (sound file a);
   empty = λ n. rw (ne-eqb (openingRefusal file) 0 n);

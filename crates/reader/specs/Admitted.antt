@@ -1,7 +1,7 @@
 -- Which plant files are admitted, in words, and that a plant holds a file's records.
 use mathlib.Core.Path.{_≡_}
 use mathlib.Core.Logic.{_↔_}
-use Prim.Native.Nat.{ℕ, _+_, _*_, _<_}
+use Prim.Native.Nat.{ℕ, _+_, _*_, _≤_, _<_}
 use mathlib.Core.List.{List, _++_}
 use lib.ListN.{getD}
 use Rattle.base.specs.Chain.{Rule, Breaks}
@@ -61,7 +61,10 @@ pub record Opening (file : List ℕ) : Type 0 where
   -- the number is 0 exactly for an admitted file
   pub accepts : (readingOf file .answer ≡ 0) ↔ Admitted file
   -- another number k is that of a broken rule with all rules before it kept, and of no other
-  pub refuses : (k : ℕ) → (_≡_ {A = ℕ} 0 k → ⊥) → (readingOf file .answer ≡ k) ↔ Breaks (rules file) k
+  pub refuses : (k : ℕ) → 1 ≤ k → (readingOf file .answer ≡ k) ↔ Breaks (rules file) k
+  -- What the rules call the file's plant holds its records, byte for byte, whenever the counts are in range; so 7 to 12 are rules on the
+  -- file's bytes.
+  pub records : CountsInRange file → Holds file (plantOf file)
   -- an admitted file's plant holds its records and is sound
   pub holds : Admitted file → Holds file (readingOf file .plant)
   pub sound : Admitted file → Sound (readingOf file .plant)

@@ -52,12 +52,12 @@ unfoldable pub otherZeros : List ℕ → Bool
 otherZeros file = zeros file 1 1 && (zeros file 2 1 && zeros file 4 1)
 
 -- opening's twelve checks in their order, each over the whole file before the next
-abbrev pub opening : List ℕ → List Test
-opening file = placing file ++ recordChecks (latticeZeros file) (otherZeros file) (plantOf file)
+abbrev pub openingChecks : List ℕ → List Test
+openingChecks file = placing file ++ recordChecks (latticeZeros file) (otherZeros file) (plantOf file)
 
 -- the number of the first check that fails, or 0
 unfoldable pub openingRefusal : List ℕ → ℕ
-openingRefusal file = first (opening file)
+openingRefusal file = first (openingChecks file)
 
 -- a refusal with number n
 abbrev pub refusedWith : ℕ → Reading
