@@ -1,0 +1,20 @@
+-- `calls::put_row` meets its contract: the entries are stored one after the other. Assumes nothing.
+use Prim.Native.Nat.{ℕ, _+_, _*_, _≤_, _-_}
+use mathlib.Core.Path.{_≡_, refl}
+use Rattle.rules.specs.Record.{fillFrom}
+use Rattle.calls.specs.Work.{getRow}
+use Rattle.calls.proofs.Rows.{rows}
+use borrow.Author.Needs.{needs}
+use Rattle.calls.proofs.put_row.Statement.{statement}
+use Rattle.calls.proofs.put_row.Tie as tie
+
+abbrev Inv-loop : tie.InvT-loop
+Inv-loop chosen₀ s row g₀ chosen g = (g ≤ 8) × (chosen ≡ fillFrom chosen₀ (s * 8) (getRow row) g)
+
+abbrev μ-loop : tie.MeasureT-loop
+μ-loop chosen₀ s row g₀ chosen g = 8 - g
+
+pub put-row-spec : {M : Type 1} → statement M
+put-row-spec =
+    tie.close
+    (tie.spec Inv-loop μ-loop (λ c. search (needs, rows, refl)) (λ c. search (needs, rows, refl)) (λ c. search (needs, rows, refl)) (λ c. search (needs, rows, refl)) (λ c. search (needs, rows, refl)) (λ c. search (needs, rows, refl)) (λ c. search (needs, rows, refl)) (λ c. search (needs, rows, refl)) (λ c. search (needs, rows, refl)))

@@ -1,0 +1,98 @@
+-- What the work of each call does on the arrays that are lent to it. proofs/Tie has that on a record that passes test 20 this is what the rules say.
+use mathlib.Core.Path.{_≡_}
+use Prim.Native.Nat.{ℕ, _+_, _*_}
+use mathlib.Core.Bool.{Bool, true, false, not, cond, _&&_, _||_}
+use mathlib.Core.List.{List, [], _∷_}
+use lib.Dec.{eqb, ltb, leb}
+use lib.ListN.{getD, replicate}
+use lib.ListN as ListN
+use Rattle.base.specs.Below.{anyBelow}
+use Rattle.base.specs.Bits.{bit}
+use Rattle.base.specs.Chain.{_gives_, first}
+use Rattle.base.specs.Fill.{fill}
+use Rattle.choice.specs.Search.{choiceIn}
+use Rattle.rules.specs.Record.{levelAt, chosenAt, fillFrom}
+
+-- a stored task is none or a task; a stored level is unset or a level
+abbrev pub taskKnown : List ℕ → ℕ → Bool
+taskKnown running s = eqb (getD running s 0) 255 || ltb (getD running s 0) 16
+
+abbrev pub levelKnown : List ℕ → ℕ → ℕ → ℕ → Bool
+levelKnown levels s t d = eqb (getD levels (levelAt s t d) 0) 255 || ltb (getD levels (levelAt s t d) 0) 16
+
+-- set
+abbrev pub setNumber : List ℕ → List ℕ → ℕ → ℕ → ℕ → ℕ → ℕ → ℕ → ℕ → ℕ
+setNumber sizes lattice skids tasks requirements s t d v =
+    first (leb skids s gives 21 ∷ leb tasks t gives 22 ∷ leb requirements d gives 23 ∷ leb (getD sizes (getD lattice d 0) 0) v gives 24 ∷ [])
+
+abbrev pub setLevels : ℕ → List ℕ → ℕ → ℕ → ℕ → ℕ → List ℕ
+setLevels number levels s t d v = cond (eqb number 0) (ListN.set levels (levelAt s t d) v) levels
+
+-- gate
+abbrev pub heldIn : List ℕ → List ℕ → List ℕ → List ℕ → ℕ → ℕ → ℕ → Bool
+heldIn group rights running chosen s o r =
+    not (eqb (getD running s 0) 255)
+    && (bit (getD rights (getD running s 0 * 8 + getD group o 0) 0) r && eqb (getD chosen (chosenAt s (getD group o 0)) 0) o)
+
+abbrev pub gateAnswer : List ℕ → List ℕ → List ℕ → List ℕ → ℕ → ℕ → ℕ → ℕ → ℕ → ℕ
+gateAnswer group rights running chosen skids tanks s o r =
+    first (leb skids s gives 21 ∷ leb tanks o gives 29 ∷ leb 3 r gives 30 ∷ not (heldIn group rights running chosen s o r) gives 33 ∷ [])
+
+-- start: a group on which the task names a right has no level; the row of chosen tanks; a needed group without a tank
+abbrev pub blankIn : List ℕ → List ℕ → List ℕ → ℕ → ℕ → ℕ → Bool
+blankIn requirement rights levels s t g = not (eqb (getD rights (t * 8 + g) 0) 0) && eqb (getD levels (levelAt s t (getD requirement g 0)) 0) 255
+
+abbrev pub pickIn : List ℕ → List ℕ → List ℕ → List ℕ → List ℕ → List ℕ → List ℕ → ℕ → ℕ → ℕ → ℕ → ℕ
+pickIn sets group level lattice requirement rights levels tanks s t g =
+    cond (eqb (getD rights (t * 8 + g) 0) 0) 255
+    (choiceIn sets group level (getD lattice (getD requirement g 0) 0) g (getD levels (levelAt s t (getD requirement g 0)) 0) tanks)
+
+abbrev pub rowIn : List ℕ → List ℕ → List ℕ → List ℕ → List ℕ → List ℕ → List ℕ → ℕ → ℕ → ℕ → ℕ → List ℕ
+rowIn sets group level lattice requirement rights levels tanks s t groups =
+    fill (pickIn sets group level lattice requirement rights levels tanks s t) (replicate 8 255) groups
+
+abbrev pub lackingIn : List ℕ → List ℕ → ℕ → ℕ → Bool
+lackingIn rights row t g = not (eqb (getD rights (t * 8 + g) 0) 0) && eqb (getD row g 0) 255
+
+-- the numbers of start up to 27
+abbrev pub startEarly : List ℕ → List ℕ → List ℕ → List ℕ → List ℕ → ℕ → ℕ → ℕ → ℕ → ℕ → ℕ
+startEarly may requirement rights levels running skids tasks groups s t =
+    first (leb skids s gives 21 ∷ leb tasks t gives 22 ∷ not (bit (getD may s 0) t) gives 25 ∷ not (eqb (getD running s 0) 255) gives 26
+    ∷ anyBelow (blankIn requirement rights levels s t) groups gives 27 ∷ [])
+
+-- an entry of a row of choices
+abbrev pub getRow : List ℕ → ℕ → ℕ
+getRow row g = getD row g 0
+
+-- stop
+abbrev pub stopNumber : ℕ → ℕ → ℕ
+stopNumber skids s = first (leb skids s gives 21 ∷ [])
+
+abbrev pub stopRunning : ℕ → ℕ → List ℕ → List ℕ
+stopRunning skids s running = cond (leb skids s) running (ListN.set running s 255)
+
+abbrev pub stopChosen : ℕ → ℕ → List ℕ → List ℕ
+stopChosen skids s chosen = cond (leb skids s) chosen (fillFrom chosen (s * 8) (getRow (replicate 8 255)) 8)
+
+-- a group's requirement and its lattice are there, and the level that a skid has for it is unset or a level
+abbrev pub linkIn : List ℕ → List ℕ → ℕ → Bool
+linkIn lattice requirement g = ltb (getD requirement g 0) 8 && ltb (getD lattice (getD requirement g 0) 0) 8
+
+abbrev pub wishKnown : List ℕ → List ℕ → ℕ → ℕ → ℕ → Bool
+wishKnown requirement levels s t g = levelKnown levels s t (getD requirement g 0)
+
+-- start: the number, and what the running tasks and the choices then are
+module _ (sets group level lattice requirement rights may levels running chosen : List ℕ) (skids tasks groups tanks s t : ℕ) where
+  abbrev pub startRow : List ℕ
+  startRow = rowIn sets group level lattice requirement rights levels tanks s t groups
+
+  abbrev pub startNumber : ℕ
+  startNumber =
+      cond (eqb (startEarly may requirement rights levels running skids tasks groups s t) 0)
+      (cond (anyBelow (lackingIn rights startRow t) groups) 28 0)
+      (startEarly may requirement rights levels running skids tasks groups s t)
+
+  pub record Started (number : ℕ) (running′ chosen′ : List ℕ) : Type 0 where
+    pub answers : number ≡ startNumber
+    pub runs : running′ ≡ cond (eqb startNumber 0) (ListN.set running s t) running
+    pub chooses : chosen′ ≡ cond (eqb startNumber 0) (fillFrom chosen (s * 8) (getRow startRow) 8) chosen

@@ -1,0 +1,365 @@
+// The work of set, start, stop and gate on lent arrays. Whoever calls it has tested the record first, once for a call or once for a list of them.
+ghost use mathlib.Core.Path.{_≡_};
+ghost use mathlib.Core.Bool.{true, false};
+ghost use Prim.Native.Nat.{ℕ, _+_, _*_, _<_, _≤_};
+ghost use lib.ListN.{getD, replicate, set};
+ghost use Rattle.base.specs.Below.{allBelow, anyBelow};
+ghost use Rattle.plant.specs.Checks.{entryBelow};
+ghost use Rattle.rules.specs.Record.{fillFrom};
+ghost use Rattle.calls.specs.Work.{taskKnown, levelKnown, setNumber, setLevels, gateAnswer, blankIn, pickIn, rowIn, lackingIn, startEarly, linkIn, wishKnown, Started, heldIn, getRow, stopNumber, stopRunning, stopChosen};
+use choice::choose;
+
+fn wide(x: u8) -> usize
+    ensures { λ r. ⌜ r ≡ x ⌝ }
+{
+    x as usize
+}
+
+// Set: 21 to 24, or the level is stored.
+pub fn set_at<'a>(
+    levels: &mut [u8; 1024],
+    sizes: &'a [u8; 8],
+    lattice: &'a [u8; 8],
+    skids: u8,
+    tasks: u8,
+    requirements: u8,
+    s: u8,
+    t: u8,
+    d: u8,
+    v: u8,
+) -> u8
+    requires { ⌜ (skids ≤ 8) × ((tasks ≤ 16) × (requirements ≤ 8)) ⌝ }
+    requires { ⌜ allBelow (entryBelow (now lattice) 8) requirements ≡ true ⌝ }
+    ensures { λ r. ⌜ (r ≡ setNumber (now (sizes .entry)) (now (lattice .entry)) skids tasks requirements s t d v) × (now (levels .exit) ≡ setLevels (setNumber (now (sizes .entry)) (now (lattice .entry)) skids tasks requirements s t d v) (now (levels .entry)) s t d v) ⌝ }
+{
+    if skids <= s {
+        return 21;
+    }
+    if tasks <= t {
+        return 22;
+    }
+    if requirements <= d {
+        return 23;
+    }
+    let l = wide(lattice[d as usize]);
+    if sizes[l] <= v {
+        return 24;
+    }
+    levels[(s as usize * 16 + t as usize) * 8 + d as usize] = v;
+    0
+}
+
+// Gate: 21, 29, 30; 0 where the skid holds the right, and else 33.
+pub fn gate_at<'a, 'b>(
+    group: &'a [u8; 64],
+    rights: &'a [u8; 128],
+    running: &'b [u8; 8],
+    chosen: &'b [u8; 64],
+    skids: u8,
+    tanks: u8,
+    s: u8,
+    o: u8,
+    r: u8,
+) -> u8
+    requires { ⌜ (skids ≤ 8) × (tanks ≤ 64) ⌝ }
+    requires { ⌜ allBelow (entryBelow (now group) 8) tanks ≡ true ⌝ }
+    requires { ⌜ allBelow (taskKnown (now running)) skids ≡ true ⌝ }
+    ensures { λ x. ⌜ x ≡ gateAnswer (now (group .entry)) (now (rights .entry)) (now (running .entry)) (now (chosen .entry)) skids tanks s o r ⌝ }
+{
+    if skids <= s {
+        return 21;
+    }
+    if tanks <= o {
+        return 29;
+    }
+    if 3 <= r {
+        return 30;
+    }
+    if !is_held(group, rights, running, chosen, s as usize, o, r) {
+        return 33;
+    }
+    0
+}
+
+fn is_held<'a, 'b>(
+    group: &'a [u8; 64],
+    rights: &'a [u8; 128],
+    running: &'b [u8; 8],
+    chosen: &'b [u8; 64],
+    s: usize,
+    o: u8,
+    r: u8,
+) -> bool
+    requires { ⌜ (s < 8) × ((o < 64) × (r < 3)) ⌝ }
+    requires { ⌜ (getD (now group) o 0 < 8) × (taskKnown (now running) s ≡ true) ⌝ }
+    ensures { λ x. ⌜ x ≡ heldIn (now (group .entry)) (now (rights .entry)) (now (running .entry)) (now (chosen .entry)) s o r ⌝ }
+{
+    let t = running[s];
+    if t == 255 {
+        return false;
+    }
+    let g = wide(group[o as usize]);
+    let x = rights[wide(t) * 8 + g];
+    if (x >> r) % 2 != 1 {
+        return false;
+    }
+    chosen[s * 8 + g] == o
+}
+
+// 27 at group g: the task has a right there and the level of its requirement is unset.
+fn is_blank<'a>(
+    requirement: &'a [u8; 8],
+    rights: &'a [u8; 128],
+    levels: &[u8; 1024],
+    s: usize,
+    t: usize,
+    g: usize,
+) -> bool
+    requires { ⌜ (s < 8) × ((t < 16) × ((g < 8) × (getD (now requirement) g 0 < 8))) ⌝ }
+    ensures { λ r. ⌜ r ≡ blankIn (now (requirement .entry)) (now (rights .entry)) (now (levels .entry)) s t g ⌝ }
+{
+    if rights[t * 8 + g] == 0 {
+        return false;
+    }
+    let d = wide(requirement[g]);
+    levels[(s * 16 + t) * 8 + d] == 255
+}
+
+fn any_blank<'a>(
+    requirement: &'a [u8; 8],
+    rights: &'a [u8; 128],
+    levels: &[u8; 1024],
+    groups: usize,
+    s: usize,
+    t: usize,
+) -> bool
+    requires { ⌜ (s < 8) × ((t < 16) × (groups ≤ 8)) ⌝ }
+    requires { ⌜ allBelow (entryBelow (now requirement) 8) groups ≡ true ⌝ }
+    ensures { λ r. ⌜ r ≡ anyBelow (blankIn (now (requirement .entry)) (now (rights .entry)) (now (levels .entry)) s t) groups ⌝ }
+{
+    for g in 0..groups {
+        if is_blank(requirement, rights, levels, s, t, g) {
+            return true;
+        }
+    }
+    false
+}
+
+// The skid's eight choices: written whole, so that nothing stale is left.
+fn put_row(chosen: &mut [u8; 64], s: usize, row: [u8; 8])
+    requires { ⌜ s < 8 ⌝ }
+    ensures { λ r. ⌜ now (chosen .exit) ≡ fillFrom (now (chosen .entry)) (s * 8) (getRow row) 8 ⌝ }
+{
+    for g in 0..8 {
+        chosen[s * 8 + g] = row[g];
+    }
+}
+
+// Stop: 21, or the skid runs nothing and has no tank.
+pub fn stop_at(running: &mut [u8; 8], chosen: &mut [u8; 64], skids: u8, s: u8) -> u8
+    requires { ⌜ skids ≤ 8 ⌝ }
+    ensures { λ r. ⌜ (r ≡ stopNumber skids s) × ((now (running .exit) ≡ stopRunning skids s (now (running .entry))) × (now (chosen .exit) ≡ stopChosen skids s (now (chosen .entry)))) ⌝ }
+{
+    if skids <= s {
+        return 21;
+    }
+    running[s as usize] = 255;
+    put_row(chosen, s as usize, [255u8; 8]);
+    0
+}
+
+// The tank for group g: the choice under the skid's level where the task has a right there, and else 255.
+fn pick_at<'a>(
+    sets: &'a [u16; 128],
+    group: &'a [u8; 64],
+    level: &'a [u8; 64],
+    lattice: &'a [u8; 8],
+    requirement: &'a [u8; 8],
+    rights: &'a [u8; 128],
+    levels: &[u8; 1024],
+    tanks: u8,
+    s: usize,
+    t: usize,
+    g: u8,
+) -> u8
+    requires { ⌜ (s < 8) × ((t < 16) × ((g < 8) × (tanks ≤ 64))) ⌝ }
+    requires { ⌜ (getD (now requirement) g 0 < 8) × (getD (now lattice) (getD (now requirement) g 0) 0 < 8) ⌝ }
+    requires { ⌜ allBelow (entryBelow (now level) 16) tanks ≡ true ⌝ }
+    requires { ⌜ (blankIn (now requirement) (now rights) (now levels) s t g ≡ false) × (levelKnown (now levels) s t (getD (now requirement) g 0) ≡ true) ⌝ }
+    ensures { λ r. ⌜ r ≡ pickIn (now (sets .entry)) (now (group .entry)) (now (level .entry)) (now (lattice .entry)) (now (requirement .entry)) (now (rights .entry)) (now (levels .entry)) tanks s t g ⌝ }
+{
+    if rights[t * 8 + g as usize] == 0 {
+        return 255;
+    }
+    let d = wide(requirement[g as usize]);
+    let l = wide(lattice[d]);
+    let v = levels[(s * 16 + t) * 8 + d];
+    choose(sets, group, level, l, g, v, tanks)
+}
+
+// The skid's row of choices for a task whose levels are set.
+fn choose_row<'a>(
+    sets: &'a [u16; 128],
+    group: &'a [u8; 64],
+    level: &'a [u8; 64],
+    lattice: &'a [u8; 8],
+    requirement: &'a [u8; 8],
+    rights: &'a [u8; 128],
+    levels: &[u8; 1024],
+    tanks: u8,
+    s: usize,
+    t: usize,
+    groups: u8,
+) -> [u8; 8]
+    requires { ⌜ (s < 8) × ((t < 16) × ((groups ≤ 8) × (tanks ≤ 64))) ⌝ }
+    requires { ⌜ allBelow (linkIn (now lattice) (now requirement)) groups ≡ true ⌝ }
+    requires { ⌜ allBelow (entryBelow (now level) 16) tanks ≡ true ⌝ }
+    requires { ⌜ (anyBelow (blankIn (now requirement) (now rights) (now levels) s t) groups ≡ false) × (allBelow (wishKnown (now requirement) (now levels) s t) groups ≡ true) ⌝ }
+    ensures { λ r. ⌜ r ≡ rowIn (now (sets .entry)) (now (group .entry)) (now (level .entry)) (now (lattice .entry)) (now (requirement .entry)) (now (rights .entry)) (now (levels .entry)) tanks s t groups ⌝ }
+{
+    let mut row = [255u8; 8];
+    let mut g: u8 = 0;
+    while g < groups {
+        row[g as usize] = pick_at(
+            sets,
+            group,
+            level,
+            lattice,
+            requirement,
+            rights,
+            levels,
+            tanks,
+            s,
+            t,
+            g,
+        );
+        g += 1;
+    }
+    row
+}
+
+// 28 at group g: the task has a right there and no tank was found.
+fn is_lacking(rights: &[u8; 128], row: [u8; 8], t: usize, g: usize) -> bool
+    requires { ⌜ (t < 16) × (g < 8) ⌝ }
+    ensures { λ r. ⌜ r ≡ lackingIn (now (rights .entry)) row t g ⌝ }
+{
+    if rights[t * 8 + g] == 0 {
+        return false;
+    }
+    row[g] == 255
+}
+
+fn any_lacking(rights: &[u8; 128], row: [u8; 8], t: usize, groups: usize) -> bool
+    requires { ⌜ (t < 16) × (groups ≤ 8) ⌝ }
+    ensures { λ r. ⌜ r ≡ anyBelow (lackingIn (now (rights .entry)) row t) groups ⌝ }
+{
+    for g in 0..groups {
+        if is_lacking(rights, row, t, g) {
+            return true;
+        }
+    }
+    false
+}
+
+// Start up to 27, before any tank is looked for.
+fn start_early<'a, 'b>(
+    may: &'a [u16; 8],
+    requirement: &'a [u8; 8],
+    rights: &'a [u8; 128],
+    levels: &'b [u8; 1024],
+    running: &'b [u8; 8],
+    skids: u8,
+    tasks: u8,
+    groups: u8,
+    s: u8,
+    t: u8,
+) -> u8
+    requires { ⌜ (skids ≤ 8) × ((tasks ≤ 16) × (groups ≤ 8)) ⌝ }
+    requires { ⌜ allBelow (entryBelow (now requirement) 8) groups ≡ true ⌝ }
+    ensures { λ r. ⌜ r ≡ startEarly (now (may .entry)) (now (requirement .entry)) (now (rights .entry)) (now (levels .entry)) (now (running .entry)) skids tasks groups s t ⌝ }
+{
+    if skids <= s {
+        return 21;
+    }
+    if tasks <= t {
+        return 22;
+    }
+    if (may[s as usize] >> t) % 2 != 1 {
+        return 25;
+    }
+    if running[s as usize] != 255 {
+        return 26;
+    }
+    if any_blank(
+        requirement,
+        rights,
+        levels,
+        groups as usize,
+        s as usize,
+        t as usize,
+    ) {
+        return 27;
+    }
+    0
+}
+
+// Start: 21 to 28, or the task runs and its groups get their choice, the skid's other groups 255.
+pub fn start_at<'a>(
+    sets: &'a [u16; 128],
+    group: &'a [u8; 64],
+    level: &'a [u8; 64],
+    lattice: &'a [u8; 8],
+    requirement: &'a [u8; 8],
+    rights: &'a [u8; 128],
+    may: &'a [u16; 8],
+    levels: &[u8; 1024],
+    running: &mut [u8; 8],
+    chosen: &mut [u8; 64],
+    skids: u8,
+    tasks: u8,
+    groups: u8,
+    tanks: u8,
+    s: u8,
+    t: u8,
+) -> u8
+    requires { ⌜ (skids ≤ 8) × ((tasks ≤ 16) × ((groups ≤ 8) × (tanks ≤ 64))) ⌝ }
+    requires { ⌜ (allBelow (linkIn (now lattice) (now requirement)) groups ≡ true) × (allBelow (entryBelow (now requirement) 8) groups ≡ true) ⌝ }
+    requires { ⌜ allBelow (entryBelow (now level) 16) tanks ≡ true ⌝ }
+    requires { ⌜ (s < skids → t < tasks → allBelow (wishKnown (now requirement) (now levels) s t) groups ≡ true) ⌝ }
+    ensures { λ r. ⌜ Started (now (sets .entry)) (now (group .entry)) (now (level .entry)) (now (lattice .entry)) (now (requirement .entry)) (now (rights .entry)) (now (may .entry)) (now (levels .entry)) (now (running .entry)) (now (chosen .entry)) skids tasks groups tanks s t r (now (running .exit)) (now (chosen .exit)) ⌝ }
+{
+    let early = start_early(
+        may,
+        requirement,
+        rights,
+        levels,
+        running,
+        skids,
+        tasks,
+        groups,
+        s,
+        t,
+    );
+    if early != 0 {
+        return early;
+    }
+    let row = choose_row(
+        sets,
+        group,
+        level,
+        lattice,
+        requirement,
+        rights,
+        levels,
+        tanks,
+        s as usize,
+        t as usize,
+        groups,
+    );
+    if any_lacking(rights, row, t as usize, groups as usize) {
+        return 28;
+    }
+    running[s as usize] = t;
+    put_row(chosen, s as usize, row);
+    0
+}
