@@ -1,0 +1,21 @@
+-- `intact::levels_ok` meets its contract: a scan over the skids. Assumes nothing.
+use Prim.Native.Nat.{_≤_, _-_}
+use mathlib.Core.Path.{_≡_}
+use mathlib.Core.Bool.{true}
+use Rattle.base.specs.Below.{allBelow}
+use Rattle.base.proofs.Scan.{scan}
+use Rattle.intact.specs.Raw.{skidLevelsIn}
+use borrow.Author.Needs.{needs}
+use Rattle.intact.proofs.levels_ok.Statement.{statement}
+use Rattle.intact.proofs.levels_ok.Tie as tie
+
+abbrev Inv-loop : tie.InvT-loop
+Inv-loop levels most requirements tasks skids s₀ s = (s ≤ skids) × (allBelow (skidLevelsIn levels most requirements tasks) s ≡ true)
+
+abbrev μ-loop : tie.MeasureT-loop
+μ-loop levels most requirements tasks skids s₀ s = skids - s
+
+pub levels-ok-spec : {M : Type 1} → statement M
+levels-ok-spec =
+    tie.close
+    (tie.spec Inv-loop μ-loop (λ c. search (needs, scan)) (λ c κs. search (needs, scan)) (λ c. search (needs, scan)) (λ c. search (needs, scan)) (λ c. search (needs, scan)) (λ c. search (needs, scan)) (λ c. search (needs, scan)))

@@ -1,0 +1,60 @@
+-- Test 20 on the record's flat lists, in the order in which the code reads them. proofs/Views has that within the counts this is the test
+-- of each skid's view.
+use Prim.Native.Nat.{ℕ, _+_, _*_}
+use mathlib.Core.Bool.{Bool, _&&_, _||_}
+use mathlib.Core.List.{List}
+use lib.Dec.{eqb, ltb}
+use lib.ListN.{getD, replicate}
+use Rattle.base.specs.Below.{allBelow}
+use Rattle.base.specs.Bits.{bit}
+use Rattle.base.specs.Fill.{fill}
+use Rattle.plant.specs.declared.Plant.{Plant}
+use Rattle.choice.specs.Choice.{unset}
+
+-- how many levels requirement d has, and the list of these
+abbrev pub levelsFrom : List ℕ → List ℕ → ℕ → ℕ
+levelsFrom sizes lattice d = getD sizes (getD lattice d 0) 0
+
+abbrev pub levelsByRequirement : List ℕ → List ℕ → ℕ → List ℕ
+levelsByRequirement sizes lattice requirements = fill (levelsFrom sizes lattice) (replicate 8 0) requirements
+
+abbrev pub most : Plant → List ℕ
+most p = levelsByRequirement (p .sizes) (p .lattice) (p .requirements)
+
+-- level v is unset or one of n levels
+abbrev pub levelIn : ℕ → ℕ → Bool
+levelIn v n = eqb v unset || ltb v n
+
+-- Levels of each requirement in one row, a row for each skid and task; of each task of a skid; of each skid. xs has the number of levels
+-- of each requirement.
+abbrev pub rowIn : List ℕ → List ℕ → ℕ → ℕ → Bool
+rowIn levels xs row d = levelIn (getD levels (row * 8 + d) 0) (getD xs d 0)
+
+abbrev pub taskLevelsIn : List ℕ → List ℕ → ℕ → ℕ → ℕ → Bool
+taskLevelsIn levels xs requirements s t = allBelow (rowIn levels xs (s * 16 + t)) requirements
+
+abbrev pub skidLevelsIn : List ℕ → List ℕ → ℕ → ℕ → ℕ → Bool
+skidLevelsIn levels xs requirements tasks s = allBelow (taskLevelsIn levels xs requirements s) tasks
+
+-- task t is one of the plant's that a skid with these tasks may run
+abbrev pub taskIn : ℕ → ℕ → ℕ → Bool
+taskIn may tasks t = ltb t tasks && bit may t
+
+-- where the running task has a right on group g, tank o is one of that group
+abbrev pub tankIn : List ℕ → ℕ → ℕ → ℕ → ℕ → Bool
+tankIn group tanks right o g = eqb right 0 || (ltb o tanks && eqb (getD group o 0) g)
+
+abbrev pub chosenIn : List ℕ → List ℕ → List ℕ → ℕ → ℕ → ℕ → ℕ → Bool
+chosenIn rights group chosen tanks t s g = tankIn group tanks (getD rights (t * 8 + g) 0) (getD chosen (s * 8 + g) 0) g
+
+-- a skid that runs nothing passes; else its task and its chosen tanks are asked
+abbrev pub runsIn : List ℕ → List ℕ → List ℕ → ℕ → ℕ → ℕ → ℕ → ℕ → ℕ → Bool
+runsIn rights group chosen may tasks groups tanks t s =
+    eqb t unset || (taskIn may tasks t && allBelow (chosenIn rights group chosen tanks t s) groups)
+
+abbrev pub skidRunsIn : Plant → List ℕ → List ℕ → ℕ → Bool
+skidRunsIn p running chosen s = runsIn (p .rights) (p .group) chosen (getD (p .may) s 0) (p .tasks) (p .groups) (p .tanks) (getD running s 0) s
+
+-- the three changing parts, on every skid
+abbrev pub partsIn : Plant → List ℕ → List ℕ → List ℕ → Bool
+partsIn p levels running chosen = allBelow (skidLevelsIn levels (most p) (p .requirements) (p .tasks)) (p .skids) && allBelow (skidRunsIn p running chosen) (p .skids)
