@@ -8,6 +8,7 @@ pub mod Rights
 pub mod Gives
 pub mod Intact
 pub mod IntactWords
+pub mod IntactKept
 pub mod Agree
 pub mod Strike
 pub mod Lists
