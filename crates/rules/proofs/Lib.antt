@@ -7,6 +7,8 @@ pub mod Kept
 pub mod Rights
 pub mod Gives
 pub mod Intact
+pub mod IntactWords
+pub mod IntactKept
 pub mod Agree
 pub mod Strike
 pub mod Lists

@@ -1,0 +1,28 @@
+-- A list of calls with test 20 left out: what a queue does after it has tested the record once.
+use mathlib.Core.Path.{_≡_}
+use mathlib.Core.Logic.{_≢_}
+use Prim.Native.Nat.{ℕ}
+use mathlib.Core.Bool.{true}
+use mathlib.Core.List.{List, [], _∷_}
+use lib.ListN.{getD}
+use Rattle.rules.specs.declared.Monitor.{Monitor}
+use Rattle.rules.specs.Rules.{Call, answer}
+use Rattle.rules.specs.Record.{viewOf, stepped, intact, replies, final}
+
+-- the answers, and the record at the end
+unfoldable pub runs : Monitor → List Call → List ℕ
+runs m [] = []
+runs m (c ∷ cs) = answer (m .plant) (viewOf (m .plant) m) c ∷ runs (stepped (m .plant) m c) cs
+
+unfoldable pub ends : Monitor → List Call → Monitor
+ends m [] = m
+ends m (c ∷ cs) = ends (stepped (m .plant) m c) cs
+
+-- One test is enough for a list: the answers and the record are those of a test before each call. proofs/IntactKept has it of every record
+-- that passes, one that nobody opened too.
+pub record TestedOnce (m : Monitor) (cs : List Call) : Type 0 where
+  pub same-answers : replies m cs ≡ runs m cs
+  pub same-record : final m cs ≡ ends m cs
+  pub never-20 : (i : ℕ) → getD (runs m cs) i 0 ≢ 20
+  pub still-passes : intact (m .plant) (ends m cs) ≡ true
+  pub same-plant : (ends m cs) .plant ≡ m .plant
