@@ -1,3 +1,5 @@
 pub mod Rows
 pub mod Known
 pub mod Early
+pub mod Ready
+pub mod Meet

@@ -1,4 +1,4 @@
--- What the work of each call does on the arrays that are lent to it. proofs/Tie has that on a record that passes test 20 this is what the rules say.
+-- What the work of each call does on the arrays that are lent to it. proofs/Meet has that on a record that passes test 20 this is what the rules say.
 use mathlib.Core.Path.{_≡_}
 use Prim.Native.Nat.{ℕ, _+_, _*_}
 use mathlib.Core.Bool.{Bool, true, false, not, cond, _&&_, _||_}
