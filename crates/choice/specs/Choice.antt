@@ -35,7 +35,7 @@ module _ (P : Plant) where
   unfoldable pub above : ℕ → ℕ → ℕ → Bool
   above g b a = tankLe P g a b && not (tankEq P g a b)
 
-  -- Tank o is nearest for the wish in group g. The article does not say over which objects definition 5 ranges: here it is the tank's
+  -- Tank o is nearest for the wish in group g. The article does not say over which group definition 5 ranges: here it is the tank's
   -- own group.
   unfoldable pub nearest : ℕ → (ℕ → ℕ) → ℕ → Bool
   nearest g wish o = serves g wish o && not (anyBelow (λ b. serves g wish b && above g b o) (P .tanks))

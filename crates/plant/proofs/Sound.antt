@@ -24,7 +24,7 @@ use Rattle.layout.specs.Header.{countOk}
 use Rattle.plant.specs.declared.Plant.{Plant}
 use Rattle.plant.specs.Plant.{latticeAt, countsOf, requirementOf, groupOf, levelOf, sameLevel, levelsOf, latticeOf, namesRequirement, rightsOf, needs}
 use Rattle.plant.specs.Right.{rights}
-use Rattle.plant.specs.Checks.{entryBelow, entryClear, countsIn, latticeFails, tankFits, rightIn, taskFitssIn, taskFits, numbersOk, atOneLevel, levelsDistinct, requirementNamed, requirementsNamed, recordChecks, plantRefusal, Counts, Layouts, Orders, Lattices, Numbers, LevelsDistinct, RequirementsNamed, recordRules, Sound}
+use Rattle.plant.specs.Checks.{entryBelow, entryClear, countsIn, latticeFails, tankFits, rightIn, taskRightsIn, taskFits, numbersOk, atOneLevel, levelsDistinct, requirementNamed, requirementsNamed, recordChecks, plantRefusal, Counts, Layouts, Orders, Lattices, Numbers, LevelsDistinct, RequirementsNamed, recordRules, Sound}
 use Rattle.plant.proofs.Sequence.{count-in}
 use Rattle.plant.proofs.Links.{entry-at}
 
@@ -89,11 +89,11 @@ module _ (p : Plant) where
       let q = and-true (ltb (groupOf p o) (p .groups)) (ltb (levelOf p o) (levelsOf p (requirementOf p (groupOf p o)))) (all-at (p .tanks) (tankFits p) (t .tank-test) o l) in
       (ltb-true _ _ (q .0), ltb-true _ _ (q .1))
 
-  task-at : Tests → (t : ℕ) → t < p .tasks → (noneFrom (p .requirements) (getD (p .names) t 0) ≡ true) × (allBelow (taskFitssIn (p .rights) (p .groups) t) 8 ≡ true)
+  task-at : Tests → (t : ℕ) → t < p .tasks → (noneFrom (p .requirements) (getD (p .names) t 0) ≡ true) × (allBelow (taskRightsIn (p .rights) (p .groups) t) 8 ≡ true)
   task-at s t l = and-true (noneFrom (p .requirements) (getD (p .names) t 0)) _ (all-at (p .tasks) (taskFits p) (s .task-test) t l)
 
   right-at : Tests → (t g : ℕ) → t < p .tasks → g < 8 → (noneFrom rights (rightsOf p t g) ≡ true) × (ltb g (p .groups) || eqb (rightsOf p t g) 0 ≡ true)
-  right-at s t g l m = and-true (noneFrom rights (rightsOf p t g)) _ (all-at 8 (taskFitssIn (p .rights) (p .groups) t) (task-at s t l .1) g m)
+  right-at s t g l m = and-true (noneFrom rights (rightsOf p t g)) _ (all-at 8 (taskRightsIn (p .rights) (p .groups) t) (task-at s t l .1) g m)
 
   numbers-words : numbersOk p ≡ true → Numbers p
   numbers-words e = let s = tests e in record {
@@ -107,7 +107,7 @@ module _ (p : Plant) where
     may-in = λ x t l b. clear-bit (p .tasks) (getD (p .may) x 0) t (all-at (p .skids) (entryClear (p .may) (p .tasks)) (s .skid-test) x l) b;
   }
 
-  right-back : Numbers p → (t g : ℕ) → t < p .tasks → g < 8 → taskFitssIn (p .rights) (p .groups) t g ≡ true
+  right-back : Numbers p → (t g : ℕ) → t < p .tasks → g < 8 → taskRightsIn (p .rights) (p .groups) t g ≡ true
   right-back n t g l m =
       and-both _ _ (clear-yes rights (rightsOf p t g) (λ r b. n .rights-known t g r l m b))
       (elim (decLt g (p .groups)) [

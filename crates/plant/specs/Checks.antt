@@ -45,11 +45,11 @@ tankIn levels groups group level = ltb group groups && ltb level (getD levels gr
 abbrev pub rightIn : ℕ → ℕ → ℕ → Bool
 rightIn groups g x = noneFrom rights x && (ltb g groups || eqb x 0)
 
-abbrev pub taskFitssIn : List ℕ → ℕ → ℕ → ℕ → Bool
-taskFitssIn rs groups t g = rightIn groups g (getD rs (t * 8 + g) 0)
+abbrev pub taskRightsIn : List ℕ → ℕ → ℕ → ℕ → Bool
+taskRightsIn rs groups t g = rightIn groups g (getD rs (t * 8 + g) 0)
 
 abbrev pub taskIn : ℕ → List ℕ → ℕ → ℕ → ℕ → Bool
-taskIn ns rs requirements groups t = noneFrom requirements ns && allBelow (taskFitssIn rs groups t) 8
+taskIn ns rs requirements groups t = noneFrom requirements ns && allBelow (taskRightsIn rs groups t) 8
 
 -- two tanks of one group at one level
 abbrev pub atOneLevelIn : List ℕ → List ℕ → ℕ → ℕ → Bool

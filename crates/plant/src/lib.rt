@@ -9,7 +9,7 @@ ghost use Rattle.base.specs.Bits.{noneFrom};
 ghost use Rattle.base.specs.Fill.{fill};
 ghost use Rattle.layout.specs.Header.{countOk};
 ghost use Rattle.plant.specs.Plant.{latticeFrom, groupOf, levelOf, noPlant};
-ghost use Rattle.plant.specs.Checks.{Fits, entryIs, entryBelow, entryClear, countsIn, tankIn, tankFits, rightIn, taskFitssIn, taskIn, taskFits, numbersOk, atOneLevelIn, levelsDistinct, requirementNamedIn, requirementsNamed, levelsFrom, levelsByGroup, refusalsOf, firstNumber, latticesRefusal, itemsRefusal, plantRefusal};
+ghost use Rattle.plant.specs.Checks.{Fits, entryIs, entryBelow, entryClear, countsIn, tankIn, tankFits, rightIn, taskRightsIn, taskIn, taskFits, numbersOk, atOneLevelIn, levelsDistinct, requirementNamedIn, requirementsNamed, levelsFrom, levelsByGroup, refusalsOf, firstNumber, latticesRefusal, itemsRefusal, plantRefusal};
 ghost use Rattle.plant.specs.Right.{draw, return, sample, validRight, maskOf};
 use lattice::Lattice;
 use lattice::refusal_of;
@@ -238,7 +238,7 @@ fn right_fits(x: u8, g: usize, groups: usize) -> bool
 
 fn rights_fit(rights: &[u8; 128], groups: usize, t: usize) -> bool
     requires { ⌜ t < 16 ⌝ }
-    ensures { λ r. ⌜ r ≡ allBelow (taskFitssIn (now (rights .entry)) groups t) 8 ⌝ }
+    ensures { λ r. ⌜ r ≡ allBelow (taskRightsIn (now (rights .entry)) groups t) 8 ⌝ }
 {
     for g in 0..8 {
         if !right_fits(rights[t * 8 + g], g, groups) {

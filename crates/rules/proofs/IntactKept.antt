@@ -4,23 +4,20 @@ use mathlib.Core.Logic.{_≢_, _⊎_, inl, inr, ⊎-elim}
 use Prim.Native.Nat.{ℕ, zero, suc, _<_}
 use native.Mathlib.Omega.{arith}
 use native.Mathlib.Decide.{ℕ-discrete}
-use mathlib.Core.Bool.{true, false, cond, not, _&&_}
+use mathlib.Core.Bool.{true, cond, _&&_}
 use mathlib.Core.List.{List, [], _∷_}
 use lib.ListN.{getD}
 use lib.Dec.{eqb}
-use borrow.Author.Tests.{eqb-true, eqb-false, lt-ltb, not-false}
-use Rattle.base.specs.Chain.{Test, first, Decides}
-use Rattle.base.proofs.Chain.{decides}
+use borrow.Author.Tests.{eqb-true, eqb-false, lt-ltb}
 use Rattle.base.proofs.Logic.{split}
-use Rattle.base.proofs.Below.{any-no}
 use Rattle.plant.specs.declared.Plant.{Plant}
 use Rattle.plant.specs.Plant.{levelsOf, groupOf, needs}
 use Rattle.plant.specs.Valid.{Valid}
 use Rattle.plant.specs.Checks.{Sound}
 use Rattle.plant.proofs.Valid.{valid}
-use Rattle.choice.specs.Choice.{unset, served}
+use Rattle.choice.specs.Choice.{unset}
 use Rattle.choice.proofs.Choice.{choice-is}
-use Rattle.rules.specs.Rules.{Call, set, start, stop, gate, unknown, skidOf, View, conditions, refusal, granted, answer, holds, lacking, pickFor, effect}
+use Rattle.rules.specs.Rules.{Call, set, start, stop, gate, unknown, skidOf, View, refusal, granted, answer, pickFor, effect}
 use Rattle.rules.specs.Intact.{IntactView}
 use Rattle.rules.specs.declared.Monitor.{Monitor}
 use Rattle.rules.specs.Record.{viewOf, changed, stepped, intact, after, reply, replies, final}
@@ -28,6 +25,7 @@ use Rattle.rules.specs.Run.{runs, ends, TestedOnce}
 use Rattle.rules.proofs.Pairs.{same}
 use Rattle.rules.proofs.Accepted.{SetOk, set-ok, StartOk, start-ok}
 use Rattle.rules.proofs.Refine.{Sized, changed-sized, changed-kept, changed-own, changed-other}
+use Rattle.rules.proofs.Words.{group-served, refusal-in, granted-is}
 use Rattle.rules.proofs.IntactWords.{intact-means}
 
 -- what an accepted call makes of its skid's view
@@ -42,11 +40,10 @@ module _ (P : Plant) (X : Valid P) (vs : ℕ → View) where
   -- the tank that a start picks where its task has a right
   pick-of-group : (s t : ℕ) → StartOk P vs s t → (g : ℕ) → g < P .groups → needs P t g ≡ true
       → (pickFor P t ((vs s) .level t) g < P .tanks) × (groupOf P (pickFor P t ((vs s) .level t) g) ≡ g)
-  unfolding pickFor lacking
+  unfolding pickFor
   pick-of-group s t k g l y =
       let wish = (vs s) .level t in
-      let f = any-no (P .groups) (λ (g′ : ℕ). needs P t g′ && not (served P g′ wish)) (k .stocked) g l in
-      let c = choice-is P X g l wish (not-false _ (rw y at f)) in
+      let c = choice-is P X g l wish (group-served P t wish (k .stocked) g l y) in
       rw (lt-ltb g (P .groups) l, y) (c .is-nearest .is-tank, c .is-nearest .of-group)
 
   effect-intact : (c : Call) → refusal P vs c ≡ 0 → IntactView P (skidOf c) (vs (skidOf c)) → IntactView P (skidOf c) (effect P (vs (skidOf c)) c)
@@ -124,38 +121,12 @@ module _ (P : Plant) where
   replies-run (c ∷ cs) m A = subst (λ (p : Plant). reply p m c ∷ replies (after p m c) cs ≡ answer p (viewOf p m) c ∷ runs (stepped p m c) cs) (sym (A .kept))
       (ap₂ _∷_ (reply-answer P m A c) (replies-run cs (after P m c) (after-passes P m A c) ∙ ap (λ (k : Monitor). runs k cs) (after-stepped P m A c)))
 
--- 20 is the number of no condition, so a call that makes no test cannot answer it
-abbrev Without : ℕ → List Test → Type 0
-Without k [] = Unit
-Without k (x ∷ l) = (eqb (x .number) k ≡ false) × Without k l
-
-never-decides : (k : ℕ) (l : List Test) → Without k l → Decides l k → ⊥
-never-decides k [] w d = d
-never-decides k (x ∷ l) w d = ⊎-elim (λ h. eqb-false (x .number) k (w .0) (h .1)) (λ h. never-decides k l (w .1) (h .1)) d
-
-without-20 : (P : Plant) (vs : ℕ → View) (c : Call) → Without 20 (conditions P vs c)
-unfolding conditions
-without-20 P vs (set s t d v) = (refl, (refl, (refl, (refl, tt))))
-without-20 P vs (start s t) = (refl, (refl, (refl, (refl, (refl, (refl, tt))))))
-without-20 P vs (stop s) = (refl, tt)
-without-20 P vs (gate s o r) = (refl, (refl, (refl, tt)))
-without-20 P vs unknown = (refl, tt)
-
-granted-not-20 : (P : Plant) (w : View) (c : Call) → granted P w c ≢ 20
-unfolding granted
-granted-not-20 P w (set s t d v) e = omega arith
-granted-not-20 P w (start s t) e = omega arith
-granted-not-20 P w (stop s) e = omega arith
-granted-not-20 P w (gate s o r) e = split (holds P w o r)
-    (λ y. let z : _≡_ {A = ℕ} 0 20 = rw y at e in omega arith)
-    (λ y. let z : _≡_ {A = ℕ} 33 20 = rw y at e in omega arith)
-granted-not-20 P w unknown e = omega arith
-
+-- 20 is neither the number of a condition nor what an accepted call returns, so a call that makes no test cannot answer it
 pub answer-not-20 : (P : Plant) (vs : ℕ → View) (c : Call) → answer P vs c ≢ 20
-unfolding answer refusal
-answer-not-20 P vs c e = split (eqb (first (conditions P vs c)) 0)
-    (λ y. granted-not-20 P (vs (skidOf c)) c (rw y at e))
-    (λ y. never-decides 20 (conditions P vs c) (without-20 P vs c) (decides (conditions P vs c) 20 (λ z. omega arith) (rw y at e)))
+unfolding answer
+answer-not-20 P vs c e = split (eqb (refusal P vs c) 0)
+    (λ y. let z : granted P (vs (skidOf c)) c ≡ 20 = rw y at e in ⊎-elim (λ h. omega arith) (λ h. omega arith) (granted-is P vs c))
+    (λ n. let z : refusal P vs c ≡ 20 = rw n at e in omega (arith, refusal-in P vs c (eqb-false _ _ n)))
 
 pub runs-not-20 : (cs : List Call) (m : Monitor) (i : ℕ) → getD (runs m cs) i 0 ≢ 20
 unfolding runs

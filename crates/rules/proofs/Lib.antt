@@ -1,5 +1,6 @@
 pub mod Pairs
 pub mod Accepted
+pub mod Words
 pub mod Flat
 pub mod Refine
 pub mod Past
@@ -7,6 +8,7 @@ pub mod Kept
 pub mod Rights
 pub mod Gives
 pub mod Intact
+pub mod Table
 pub mod IntactWords
 pub mod IntactKept
 pub mod Agree

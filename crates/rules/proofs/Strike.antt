@@ -14,7 +14,7 @@ use Rattle.rules.proofs.Kept.{AllAccepted, note-sound}
 use Rattle.rules.proofs.Past.{past-own, past-other}
 
 -- The one place that says what a call's conditions read: the view of the skid that it names. A condition that reads other skids' views
--- is met here, by what `Sound` tells of both histories.
+-- is met here, by what `AllAccepted` tells of both histories.
 own-refusal : (P : Plant) (a b : List Call) → AllAccepted P a → AllAccepted P b → (c : Call) → past P a (skidOf c) ≡ past P b (skidOf c) → refusal P (past P a) c ≡ refusal P (past P b) c
 unfolding refusal conditions
 own-refusal P a b S T (set s t d v) e = refl

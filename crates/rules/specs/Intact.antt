@@ -27,7 +27,7 @@ module _ (P : Plant) where
   unfoldable pub intactView : ℕ → View → Bool
   intactView s w = allBelow (λ t. allBelow (λ d. levelOk w t d) (P .requirements)) (P .tasks) && (taskOk s w && allBelow (λ g. tankOk w g) (P .groups))
 
--- The same in words. proofs/Intact has that the test means this.
+-- The same in words. proofs/IntactWords has that the test means this.
 pub record IntactView (P : Plant) (s : ℕ) (w : View) : Type 0 where
   pub levels-known : (t d : ℕ) → t < P .tasks → d < P .requirements → (w .level t d ≡ unset) ⊎ (w .level t d < levelsOf P d)
   pub task-allowed : (w .running ≡ unset) ⊎ ((w .running < P .tasks) × (mayRun P s (w .running) ≡ true))

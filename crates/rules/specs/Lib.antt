@@ -1,7 +1,9 @@
 pub mod Rules
+pub mod Words
 pub mod Intact
 pub mod Record
 pub mod Run
+pub mod Table
 pub mod History
 pub mod Rights
 pub mod Demand

@@ -5,13 +5,13 @@ use mathlib.Core.Bool.{true, false, not}
 use lib.ListN.{getD}
 use Rattle.base.specs.Below.{allBelow, anyBelow}
 use Rattle.base.proofs.Scan.{scan}
-use Rattle.plant.specs.Checks.{taskFitssIn}
+use Rattle.plant.specs.Checks.{taskRightsIn}
 use borrow.Author.Needs.{needs}
 use Rattle.plant.proofs.rights_fit.Statement.{statement}
 use Rattle.plant.proofs.rights_fit.Tie as tie
 
 abbrev Inv-loop : tie.InvT-loop
-Inv-loop rights groups t g₀ g = (g ≤ 8) × (allBelow (taskFitssIn rights groups t) g ≡ true)
+Inv-loop rights groups t g₀ g = (g ≤ 8) × (allBelow (taskRightsIn rights groups t) g ≡ true)
 
 abbrev μ-loop : tie.MeasureT-loop
 μ-loop rights groups t g₀ g = 8 - g

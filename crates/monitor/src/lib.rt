@@ -1,0 +1,199 @@
+// The monitor: opening a plant file, and set, start, stop and gate by value. Each call tests the record, whoever made it, before anything else.
+ghost use mathlib.Core.Path.{_≡_};
+ghost use lib.ListN.{replicate};
+ghost use Rattle.rules.specs.Rules.{set, start, stop, gate};
+ghost use Rattle.rules.specs.Record.{fresh};
+ghost use Rattle.intact.specs.Zeros.{zeroMonitor};
+ghost use Rattle.monitor.specs.Calls.{stepOf, openedOf};
+use calls::gate_at;
+use calls::set_at;
+use calls::start_at;
+use calls::stop_at;
+use intact::is_intact;
+use plant::Plant;
+use rules::Monitor;
+
+// The answer to a call, and the monitor after it.
+#[repr(C)]
+pub struct Answered {
+    pub answer: u8,
+    pub monitor: Monitor,
+}
+
+// A plant with nothing set, running or chosen.
+fn fresh_monitor(p: Plant) -> Monitor
+    ensures { λ r. ⌜ r ≡ fresh p ⌝ }
+{
+    Monitor {
+        plant: p,
+        levels: [255u8; 1024],
+        running: [255u8; 8],
+        chosen: [255u8; 64],
+    }
+}
+
+fn zero_monitor(p: Plant) -> Monitor
+    ensures { λ r. ⌜ r ≡ record { plant = p; levels = replicate 1024 0; running = replicate 8 0; chosen = replicate 64 0 } ⌝ }
+{
+    Monitor {
+        plant: p,
+        levels: [0u8; 1024],
+        running: [0u8; 8],
+        chosen: [0u8; 64],
+    }
+}
+
+// Opening: the number that refuses the file, or 0 and the fresh monitor.
+pub fn open(file: &[u8]) -> Answered
+    ensures { λ r. ⌜ r ≡ openedOf (now (file .entry)) ⌝ }
+{
+    let reading = reader::read(file);
+    let answer = reading.answer;
+    let p = reading.plant;
+    if answer != 0 {
+        return Answered {
+            answer: answer,
+            monitor: zero_monitor(p),
+        };
+    }
+    Answered {
+        answer: 0,
+        monitor: fresh_monitor(p),
+    }
+}
+
+// Set (skid, task, requirement, level): 20, 21, 22, 23, 24, or the level is stored.
+pub fn set_level(m: Monitor, skid: u8, task: u8, requirement: u8, level: u8) -> Answered
+    ensures { λ r. ⌜ r ≡ stepOf m (set skid task requirement level) ⌝ }
+{
+    if !is_intact(m) {
+        return Answered {
+            answer: 20,
+            monitor: m,
+        };
+    }
+    let p = m.plant;
+    let mut levels = m.levels;
+    let running = m.running;
+    let chosen = m.chosen;
+    let answer = set_at(
+        &mut levels,
+        &p.sizes,
+        &p.lattice,
+        p.skids,
+        p.tasks,
+        p.requirements,
+        skid,
+        task,
+        requirement,
+        level,
+    );
+    Answered {
+        answer: answer,
+        monitor: Monitor {
+            plant: p,
+            levels: levels,
+            running: running,
+            chosen: chosen,
+        },
+    }
+}
+
+// Start (skid, task): 20, 21, 22, 25, 26, 27, 28, or the task runs.
+pub fn start_task(m: Monitor, skid: u8, task: u8) -> Answered
+    ensures { λ r. ⌜ r ≡ stepOf m (start skid task) ⌝ }
+{
+    if !is_intact(m) {
+        return Answered {
+            answer: 20,
+            monitor: m,
+        };
+    }
+    let p = m.plant;
+    let levels = m.levels;
+    let mut running = m.running;
+    let mut chosen = m.chosen;
+    let answer = start_at(
+        &p.sets,
+        &p.group,
+        &p.level,
+        &p.lattice,
+        &p.requirement,
+        &p.rights,
+        &p.may,
+        &levels,
+        &mut running,
+        &mut chosen,
+        p.skids,
+        p.tasks,
+        p.groups,
+        p.tanks,
+        skid,
+        task,
+    );
+    Answered {
+        answer: answer,
+        monitor: Monitor {
+            plant: p,
+            levels: levels,
+            running: running,
+            chosen: chosen,
+        },
+    }
+}
+
+// Stop (skid): 20, 21, or the skid runs nothing.
+pub fn stop_task(m: Monitor, skid: u8) -> Answered
+    ensures { λ r. ⌜ r ≡ stepOf m (stop skid) ⌝ }
+{
+    if !is_intact(m) {
+        return Answered {
+            answer: 20,
+            monitor: m,
+        };
+    }
+    let p = m.plant;
+    let levels = m.levels;
+    let mut running = m.running;
+    let mut chosen = m.chosen;
+    let answer = stop_at(&mut running, &mut chosen, p.skids, skid);
+    Answered {
+        answer: answer,
+        monitor: Monitor {
+            plant: p,
+            levels: levels,
+            running: running,
+            chosen: chosen,
+        },
+    }
+}
+
+// Gate (skid, tank, right): 20, 21, 29, 30; 0 where the skid holds the right, else 33.
+pub fn ask_gate(m: Monitor, skid: u8, tank: u8, right: u8) -> Answered
+    ensures { λ r. ⌜ r ≡ stepOf m (gate skid tank right) ⌝ }
+{
+    if !is_intact(m) {
+        return Answered {
+            answer: 20,
+            monitor: m,
+        };
+    }
+    let p = m.plant;
+    let running = m.running;
+    let chosen = m.chosen;
+    let answer = gate_at(
+        &p.group,
+        &p.rights,
+        &running,
+        &chosen,
+        p.skids,
+        p.tanks,
+        skid,
+        tank,
+        right,
+    );
+    Answered {
+        answer: answer,
+        monitor: m,
+    }
+}
