@@ -1,11 +1,20 @@
 -- Every worked case of the paper comes out as it says. Assumes nothing.
 use mathlib.Core.Path.{_≡_, refl}
 use mathlib.Core.Bool.{true}
-use Rattle.base.specs.Below.{allBelow, anyBelow}
+use Rattle.base.specs.Below.{allBelow, anyBelow, firstBelow}
 use Rattle.base.specs.Bits.{noneFrom}
-use Rattle.lattice.specs.Levels.{layout, reflexive, antisymmetric, transitive, ordered, joined, complete, refusal}
-use Rattle.cases.specs.Cases.{right, cases, every}
+use Rattle.base.specs.Fill.{fill}
+use Rattle.lattice.specs.Levels as levels
+use Rattle.layout.specs.Layout.{place, zerosAt}
+use Rattle.layout.specs.Header.{lengthOk, editionOk, countOk, countsOk, zerosOk, inside, allInside, apart, allApart, placingRefusal}
+use Rattle.plant.specs.Checks.{countsIn, latticeFails, numbersOk, levelsDistinct, requirementsNamed, plantRefusal}
+use Rattle.reader.specs.Reading.{latticeZeros, otherZeros, openingRefusal, readingOf}
+use Rattle.choice.specs.Choice.{fits, tankLe, tankEq, serves, above, nearest, served, choice}
+use Rattle.rules.specs.Rules.{blankAt, blank, lacking, holds, conditions, refusal, granted, answer, pickFor}
+use Rattle.rules.specs.Intact.{levelOk, taskOk, tankOk, intactView}
+use Rattle.rules.specs.Record.{fresh, fillFrom, viewOf, changed, stepped, intact, reply, after, replies, final}
+use Rattle.cases.specs.Cases.{session, requests, threeTanks, rightsOn, rightsOf, rightsHeld, sameList, right, cases, every}
 
 pub all-right : every cases ≡ true
-unfolding allBelow anyBelow noneFrom layout reflexive antisymmetric transitive ordered joined complete refusal right cases every
+unfolding allBelow anyBelow firstBelow noneFrom fill levels.layout levels.reflexive levels.antisymmetric levels.transitive levels.ordered levels.joined levels.complete levels.refusal place zerosAt lengthOk editionOk countOk countsOk zerosOk inside allInside apart allApart placingRefusal countsIn latticeFails numbersOk levelsDistinct requirementsNamed plantRefusal latticeZeros otherZeros openingRefusal readingOf fits tankLe tankEq serves above nearest served choice blankAt blank lacking holds conditions refusal granted answer pickFor levelOk taskOk tankOk intactView fresh fillFrom viewOf changed stepped intact reply after replies final session requests threeTanks rightsOn rightsOf rightsHeld sameList right cases every
 all-right = refl

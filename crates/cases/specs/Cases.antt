@@ -1,31 +1,125 @@
 -- The worked cases of the paper, each with the answer that it gives, as one list.
-use Prim.Native.Nat.{ℕ, _-_}
-use mathlib.Core.Bool.{Bool, true, _&&_}
+use Prim.Native.Nat.{ℕ, zero, suc, _-_}
+use mathlib.Core.Bool.{Bool, true, false, cond, _&&_}
 use mathlib.Core.List.{List, [], _∷_, _++_}
 use lib.Dec.{eqb}
 use lib.ListN.{length, replicate}
 use Rattle.lattice.specs.declared.Lattice.{Lattice}
-use Rattle.lattice.specs.Levels.{refusal}
+use Rattle.lattice.specs.Levels as levels
+use Rattle.plant.specs.declared.Plant.{Plant}
+use Rattle.reader.specs.Reading.{readingOf}
+use Rattle.choice.specs.Choice.{choice}
+use Rattle.rules.specs.declared.Monitor.{Monitor}
+use Rattle.rules.specs.Rules.{Call, set, start, stop, gate, holds}
+use Rattle.rules.specs.Record.{viewOf, replies, final}
+use Rattle.monitor.specs.Calls.{openedOf}
 
 pub data Case : Type 0 where
   -- a lattice record with these sets, one for each level, and the number that refuses it, or 0
   lattice : List ℕ → ℕ → Case
+  -- a plant file and opening's number
+  opening : List ℕ → ℕ → Case
+  -- a plant file, calls from its fresh monitor, and their answers
+  answers : List ℕ → List Call → List ℕ → Case
+  -- the same, and every right held at the end: skid, tank, right, rising in that order
+  held : List ℕ → List Call → List ℕ → Case
+  -- the tank chosen from group 0 of a plant for a level
+  chosen : Plant → ℕ → ℕ → Case
 
 abbrev pub latticeOf : List ℕ → Lattice
 latticeOf sets = record { n = length sets; sets = sets ++ replicate (16 - length sets) 0 }
 
+-- the paper's plant, 132 bytes
+unfoldable pub session : List ℕ
+session =
+    -- the header
+    1 ∷ 2 ∷ 2 ∷ 2 ∷ 4 ∷ 2 ∷ 2 ∷ 0 ∷ 24 ∷ 0 ∷ 92 ∷ 0 ∷ 96 ∷ 0 ∷ 100 ∷ 0 ∷ 108 ∷ 0 ∷ 128 ∷ 0 ∷ 132 ∷ 0 ∷ 0 ∷ 0
+    -- lattice 0: 3 levels, sets 7, 6, 4
+    ∷ 3 ∷ 0 ∷ 7 ∷ 0 ∷ 6 ∷ 0 ∷ 4 ∷ 0 ∷ 0 ∷ 0 ∷ 0 ∷ 0 ∷ 0 ∷ 0 ∷ 0 ∷ 0 ∷ 0 ∷ 0 ∷ 0 ∷ 0 ∷ 0 ∷ 0 ∷ 0 ∷ 0 ∷ 0 ∷ 0 ∷ 0 ∷ 0 ∷ 0 ∷ 0 ∷ 0 ∷ 0 ∷ 0 ∷ 0
+    -- lattice 1: 4 levels, sets 15, 10, 12, 8
+    ∷ 4 ∷ 0 ∷ 15 ∷ 0 ∷ 10 ∷ 0 ∷ 12 ∷ 0 ∷ 8 ∷ 0 ∷ 0 ∷ 0 ∷ 0 ∷ 0 ∷ 0 ∷ 0 ∷ 0 ∷ 0 ∷ 0 ∷ 0 ∷ 0 ∷ 0 ∷ 0 ∷ 0 ∷ 0 ∷ 0 ∷ 0 ∷ 0 ∷ 0 ∷ 0 ∷ 0 ∷ 0 ∷ 0 ∷ 0
+    -- requirements
+    ∷ 0 ∷ 0 ∷ 1 ∷ 0
+    -- groups
+    ∷ 0 ∷ 0 ∷ 1 ∷ 0
+    -- tanks: group, level
+    ∷ 0 ∷ 0 ∷ 0 ∷ 2 ∷ 1 ∷ 1 ∷ 1 ∷ 2
+    -- tasks: names, rights
+    ∷ 3 ∷ 0 ∷ 1 ∷ 5 ∷ 0 ∷ 0 ∷ 0 ∷ 0 ∷ 0 ∷ 0 ∷ 1 ∷ 0 ∷ 2 ∷ 0 ∷ 0 ∷ 0 ∷ 0 ∷ 0 ∷ 0 ∷ 0
+    -- skids
+    ∷ 3 ∷ 0 ∷ 2 ∷ 0
+    ∷ []
+
+unfoldable pub requests : List Call
+requests = start 0 0 ∷ set 0 0 0 1 ∷ set 0 0 1 3 ∷ start 0 0 ∷ gate 0 0 0 ∷ set 0 0 0 2 ∷ gate 0 1 0 ∷ start 0 1 ∷ stop 1 ∷ start 1 0 ∷ []
+
+-- the session's lattice 0 with three tanks at levels 0, 1 and 2 of one group
+unfoldable pub threeTanks : Plant
+threeTanks = record {
+  lattices = 1;
+  requirements = 1;
+  groups = 1;
+  tanks = 3;
+  tasks = 1;
+  skids = 1;
+  sizes = 3 ∷ [];
+  sets = 7 ∷ 6 ∷ 4 ∷ [];
+  lattice = 0 ∷ [];
+  requirement = 0 ∷ [];
+  group = 0 ∷ 0 ∷ 0 ∷ [];
+  level = 0 ∷ 1 ∷ 2 ∷ [];
+  names = 1 ∷ [];
+  rights = 1 ∷ [];
+  may = 1 ∷ [];
+}
+
+-- every right that a record holds, as skid, tank, right, one after the other: the numbers from 0 up, walked down so that they come out rising
+module _ (P : Plant) (m : Monitor) where
+  unfoldable pub rightsOn : ℕ → ℕ → ℕ → List ℕ → List ℕ
+  rightsOn s o zero l = l
+  rightsOn s o (suc r) l = rightsOn s o r (cond (holds P (viewOf P m s) o r) (s ∷ o ∷ r ∷ l) l)
+
+  unfoldable pub rightsOf : ℕ → ℕ → List ℕ → List ℕ
+  rightsOf s zero l = l
+  rightsOf s (suc o) l = rightsOf s o (rightsOn s o 3 l)
+
+  unfoldable pub rightsHeld : ℕ → List ℕ → List ℕ
+  rightsHeld zero l = l
+  rightsHeld (suc s) l = rightsHeld s (rightsOf s (P .tanks) l)
+
+unfoldable pub sameList : List ℕ → List ℕ → Bool
+sameList [] [] = true
+sameList [] (y ∷ l) = false
+sameList (x ∷ k) [] = false
+sameList (x ∷ k) (y ∷ l) = eqb x y && sameList k l
+
+abbrev pub opened : List ℕ → Monitor
+opened file = openedOf file .monitor
+
 unfoldable pub right : Case → Bool
-right (lattice sets number) = eqb (refusal (latticeOf sets)) number
+right (lattice sets number) = eqb (levels.refusal (latticeOf sets)) number
+right (opening file number) = eqb (openedOf file .answer) number
+right (answers file calls numbers) = sameList (replies (opened file) calls) numbers
+right (held file calls triples) = sameList (rightsHeld (readingOf file .plant) (final (opened file) calls) (readingOf file .plant .skids) []) triples
+right (chosen P v o) = eqb (choice P 0 (λ d. v)) o
 
 unfoldable pub cases : List Case
 cases =
+    -- P1 and P2: the session's plant is accepted, its answers, and the rights at its end
+    opening session 0
+    ∷ answers session requests (27 ∷ 0 ∷ 0 ∷ 0 ∷ 0 ∷ 0 ∷ 33 ∷ 26 ∷ 0 ∷ 25 ∷ [])
+    ∷ held session requests (0 ∷ 0 ∷ 0 ∷ 0 ∷ 2 ∷ 0 ∷ 0 ∷ 2 ∷ 2 ∷ [])
     -- P3 to P8
-    lattice (1 ∷ []) 0
+    ∷ lattice (1 ∷ []) 0
     ∷ lattice (0 ∷ []) 8
     ∷ lattice (3 ∷ 3 ∷ []) 8
     ∷ lattice (3 ∷ 6 ∷ 4 ∷ []) 8
     ∷ lattice (1 ∷ 2 ∷ []) 9
     ∷ lattice (63 ∷ 58 ∷ 60 ∷ 40 ∷ 48 ∷ 32 ∷ []) 9
+    -- P9: requirement 0 at 1 and requirement 1 at 0
+    ∷ answers session (set 0 0 0 1 ∷ set 0 0 1 0 ∷ start 0 0 ∷ []) (0 ∷ 0 ∷ 28 ∷ [])
+    -- P10: under level 1 the middle tank
+    ∷ chosen threeTanks 1 1
     ∷ []
 
 unfoldable pub every : List Case → Bool
