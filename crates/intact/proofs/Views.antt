@@ -1,9 +1,9 @@
 -- Of a sound plant, test 20 on the flat lists is the test of each skid's view, and every number that the code reads by is within the record. Assumes nothing.
-use mathlib.Core.Path.{_≡_, refl, sym, ap, ap₂, _∙_}
-use Prim.Native.Nat.{ℕ, _+_, _*_, _≤_, _<_}
+use mathlib.Core.Path.{_≡_, sym, ap, ap₂, _∙_}
+use Prim.Native.Nat.{ℕ, _+_, _*_, _<_}
 use native.Mathlib.Omega.{arith}
-use mathlib.Core.Bool.{Bool, true, false, cond, not, _&&_, _||_}
-use lib.Dec.{eqb, ltb}
+use mathlib.Core.Bool.{Bool, true, false, _&&_, _||_}
+use lib.Dec.{eqb}
 use lib.ListN.{getD, replicate, length-replicate}
 use borrow.Author.Tests.{lt-ltb, eq-eqb, ne-eqb}
 use Rattle.base.specs.Below.{allBelow}
@@ -47,14 +47,14 @@ module _ (P : Plant) (m : Monitor) (F : Fits P) (s : ℕ) (l : s < P .skids) whe
   unfolding tankOk viewOf
   tank-same e g a = rw (lt-ltb s (P .skids) l, lt-ltb g (P .groups) a, e) (split (eqb (rightsOf P (getD (m .running) s 0) g) 0) (λ z. rw z) (λ z. rw z))
 
-  task-same : taskOk P s (viewOf P m s) ≡ eqb (getD (m .running) s 0) unset || taskIn (getD (P .may) s 0) (P .tasks) (getD (m .running) s 0)
+  task-same : taskOk P s (viewOf P m s) ≡ eqb (getD (m .running) s 0) unset || taskIn (P .may) (P .tasks) (getD (m .running) s 0) s
   unfolding taskOk viewOf
   task-same = rw (lt-ltb s (P .skids) l)
 
   runs-same : taskOk P s (viewOf P m s) && allBelow (λ g. tankOk P (viewOf P m s) g) (P .groups) ≡ skidRunsIn P (m .running) (m .chosen) s
   runs-same = rw task-same (split (eqb (getD (m .running) s 0) unset)
       (λ e. rw e (all-yes (P .groups) _ (λ g a. tank-free e g)))
-      (λ e. rw e (ap (λ (b : Bool). taskIn (getD (P .may) s 0) (P .tasks) (getD (m .running) s 0) && b) (all-same (P .groups) _ _ (λ g a. tank-same e g a)))))
+      (λ e. rw e (ap (λ (b : Bool). taskIn (P .may) (P .tasks) (getD (m .running) s 0) s && b) (all-same (P .groups) _ _ (λ g a. tank-same e g a)))))
 
   view-same : intactView P s (viewOf P m s) ≡ skidLevelsIn (m .levels) (most P) (P .requirements) (P .tasks) s && skidRunsIn P (m .running) (m .chosen) s
   unfolding intactView

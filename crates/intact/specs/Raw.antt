@@ -36,9 +36,9 @@ taskLevelsIn levels xs requirements s t = allBelow (rowIn levels xs (s * 16 + t)
 abbrev pub skidLevelsIn : List ℕ → List ℕ → ℕ → ℕ → ℕ → Bool
 skidLevelsIn levels xs requirements tasks s = allBelow (taskLevelsIn levels xs requirements s) tasks
 
--- task t is one of the plant's that a skid with these tasks may run
-abbrev pub taskIn : ℕ → ℕ → ℕ → Bool
-taskIn may tasks t = ltb t tasks && bit may t
+-- task t is one of the plant's, and one that skid s may run
+abbrev pub taskIn : List ℕ → ℕ → ℕ → ℕ → Bool
+taskIn may tasks t s = ltb t tasks && bit (getD may s 0) t
 
 -- where the running task has a right on group g, tank o is one of that group
 abbrev pub tankIn : List ℕ → ℕ → ℕ → ℕ → ℕ → Bool
@@ -48,12 +48,12 @@ abbrev pub chosenIn : List ℕ → List ℕ → List ℕ → ℕ → ℕ → ℕ
 chosenIn rights group chosen tanks t s g = tankIn group tanks (getD rights (t * 8 + g) 0) (getD chosen (s * 8 + g) 0) g
 
 -- a skid that runs nothing passes; else its task and its chosen tanks are asked
-abbrev pub runsIn : List ℕ → List ℕ → List ℕ → ℕ → ℕ → ℕ → ℕ → ℕ → ℕ → Bool
-runsIn rights group chosen may tasks groups tanks t s =
-    eqb t unset || (taskIn may tasks t && allBelow (chosenIn rights group chosen tanks t s) groups)
+abbrev pub runsIn : List ℕ → List ℕ → List ℕ → List ℕ → ℕ → ℕ → ℕ → ℕ → ℕ → Bool
+runsIn rights group may chosen tasks groups tanks t s =
+    eqb t unset || (taskIn may tasks t s && allBelow (chosenIn rights group chosen tanks t s) groups)
 
 abbrev pub skidRunsIn : Plant → List ℕ → List ℕ → ℕ → Bool
-skidRunsIn p running chosen s = runsIn (p .rights) (p .group) chosen (getD (p .may) s 0) (p .tasks) (p .groups) (p .tanks) (getD running s 0) s
+skidRunsIn p running chosen s = runsIn (p .rights) (p .group) (p .may) chosen (p .tasks) (p .groups) (p .tanks) (getD running s 0) s
 
 -- the three changing parts, on every skid
 abbrev pub partsIn : Plant → List ℕ → List ℕ → List ℕ → Bool

@@ -1,13 +1,12 @@
 // Test 20: whether a monitor's record can be relied on. A record can come from anywhere, so nothing is asked of it beforehand.
 ghost use mathlib.Core.Path.{_≡_};
-ghost use mathlib.Core.Bool.{true, _&&_, _||_};
-ghost use Prim.Native.Nat.{ℕ, _+_, _*_, _<_, _≤_};
-ghost use lib.Dec.{eqb};
+ghost use mathlib.Core.Bool.{true};
+ghost use Prim.Native.Nat.{_<_, _≤_};
 ghost use lib.ListN.{getD};
 ghost use Rattle.base.specs.Below.{allBelow};
 ghost use Rattle.plant.specs.Checks.{Fits, entryBelow};
 ghost use Rattle.rules.specs.Record.{intact};
-ghost use Rattle.intact.specs.Raw.{levelsFrom, levelsByRequirement, levelIn, rowIn, taskLevelsIn, skidLevelsIn, taskIn, tankIn, chosenIn, runsIn, skidRunsIn, partsIn};
+ghost use Rattle.intact.specs.Raw.{levelsFrom, levelsByRequirement, levelIn, rowIn, skidLevelsIn, taskIn, tankIn, chosenIn, runsIn, skidRunsIn, partsIn};
 use plant::Plant;
 use plant::refusal;
 use rules::Monitor;
@@ -100,14 +99,14 @@ fn levels_ok<'a>(
 }
 
 // A running task is one of the plant's and one that the skid may run.
-fn task_ok(may: u16, tasks: u8, t: u8) -> bool
-    requires { ⌜ tasks ≤ 16 ⌝ }
-    ensures { λ r. ⌜ r ≡ taskIn may tasks t ⌝ }
+fn task_ok(may: &[u16; 8], tasks: u8, t: u8, s: usize) -> bool
+    requires { ⌜ (tasks ≤ 16) × (s < 8) ⌝ }
+    ensures { λ r. ⌜ r ≡ taskIn (now (may .entry)) tasks t s ⌝ }
 {
     if tasks <= t {
         return false;
     }
-    (may >> t) % 2 == 1
+    (may[s] >> t) % 2 == 1
 }
 
 // Where the running task has no right, any byte passes as the chosen tank; 255 too.
@@ -145,11 +144,11 @@ fn tanks_ok<'a, 'b>(
 }
 
 // What skid s runs, with its chosen tanks. 255 is no task and names no rights, so it is asked first.
-fn runs_ok<'a, 'b>(
+fn skid_runs_ok<'a, 'b>(
     rights: &'a [u8; 128],
     group: &'a [u8; 64],
+    may: &'a [u16; 8],
     chosen: &'b [u8; 64],
-    may: u16,
     tasks: u8,
     groups: usize,
     tanks: u8,
@@ -157,30 +156,29 @@ fn runs_ok<'a, 'b>(
     s: usize,
 ) -> bool
     requires { ⌜ (tasks ≤ 16) × ((groups ≤ 8) × ((tanks ≤ 64) × (s < 8))) ⌝ }
-    ensures { λ r. ⌜ r ≡ runsIn (now (rights .entry)) (now (group .entry)) (now (chosen .entry)) may tasks groups tanks t s ⌝ }
+    ensures { λ r. ⌜ r ≡ runsIn (now (rights .entry)) (now (group .entry)) (now (may .entry)) (now (chosen .entry)) tasks groups tanks t s ⌝ }
 {
     if t == 255 {
         return true;
     }
-    if !task_ok(may, tasks, t) {
+    if !task_ok(may, tasks, t, s) {
         return false;
     }
     tanks_ok(rights, group, chosen, groups, tanks, wide(t), s)
 }
 
-fn all_run_ok<'a>(p: Plant, running: &'a [u8; 8], chosen: &'a [u8; 64]) -> bool
+fn runs_ok<'a>(p: Plant, running: &'a [u8; 8], chosen: &'a [u8; 64]) -> bool
     requires { ⌜ Fits p ⌝ }
     ensures { λ r. ⌜ r ≡ allBelow (skidRunsIn p (now (running .entry)) (now (chosen .entry))) (p .skids) ⌝ }
 {
     let n = p.skids as usize;
     let groups = p.groups as usize;
     for s in 0..n {
-        let may = p.may[s];
-        if !runs_ok(
+        if !skid_runs_ok(
             &p.rights,
             &p.group,
+            &p.may,
             chosen,
-            may,
             p.tasks,
             groups,
             p.tanks,
@@ -208,7 +206,7 @@ fn parts_ok<'a>(
     let tasks = p.tasks as usize;
     let skids = p.skids as usize;
     let most = levels_by_requirement(&p.sizes, &p.lattice, requirements);
-    levels_ok(levels, &most, requirements, tasks, skids) && all_run_ok(p, running, chosen)
+    levels_ok(levels, &most, requirements, tasks, skids) && runs_ok(p, running, chosen)
 }
 
 // 20. The plant comes first: its counts and links say where the changing parts are read, and lie within the record only once it has

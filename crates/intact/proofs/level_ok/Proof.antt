@@ -1,6 +1,5 @@
 -- `intact::level_ok` meets its contract: each comparison is the definition's. Assumes nothing.
 use Rattle.base.proofs.Both.{both}
-use borrow.Author.Needs.{needs}
 use Rattle.intact.proofs.level_ok.Statement.{statement}
 use Rattle.intact.proofs.level_ok.Tie as tie
 

@@ -1,5 +1,5 @@
 -- `intact::levels_by_requirement` meets its contract: each link is within the arrays. Assumes nothing.
-use Prim.Native.Nat.{ℕ, _≤_, _<_, _-_}
+use Prim.Native.Nat.{_≤_, _-_}
 use mathlib.Core.Path.{_≡_}
 use Rattle.base.specs.Fill.{fill}
 use Rattle.base.proofs.Filled.{filled}

@@ -1,35 +1,21 @@
--- `intact::runs_ok` meets its contract: the running task is asked before its tanks. Assumes nothing.
-use mathlib.Core.Path.{_∙_}
-use Prim.Native.Nat.{_<_}
-use native.Mathlib.Omega.{arith}
-use lib.Dec.{ltb}
-use borrow.Author.Tests.{eq-eqb, ne-eqb, ltb-true}
-use Rattle.base.specs.Bits.{bit}
-use Rattle.base.proofs.Logic.{and-true}
-use Rattle.base.proofs.Both.{or-stop, or-on, guard-off, guard-on, held}
+-- `intact::runs_ok` meets its contract: a scan over the skids. Assumes nothing.
+use Prim.Native.Nat.{_≤_, _-_}
+use mathlib.Core.Path.{_≡_}
+use mathlib.Core.Bool.{true}
+use Rattle.base.specs.Below.{allBelow}
+use Rattle.base.proofs.Scan.{scan}
+use Rattle.intact.specs.Raw.{skidRunsIn}
 use borrow.Author.Needs.{needs}
 use Rattle.intact.proofs.runs_ok.Statement.{statement}
 use Rattle.intact.proofs.runs_ok.Tie as tie
 
-returns : tie.Need-returns
-returns c = or-stop _ _ (eq-eqb _ _ (c .if1 .taken))
+abbrev Inv-loop : tie.InvT-loop
+Inv-loop running chosen p n groups s₀ s = (s ≤ n) × (allBelow (skidRunsIn p running chosen) s ≡ true)
 
-returns-2 : tie.Need-returns-2
-returns-2 c = or-on _ _ (ne-eqb _ _ (c .before .before .if1 .left)) (guard-off _ _ (c .before .task-ok .ensures) (c .if2 .taken))
-
-tanks-ok-requires : tie.Need-tanks-ok-requires
-tanks-ok-requires c κs =
-    let k = c .before .before in
-    let a = k .before .before .args in
-    let l : a .t < a .tasks = ltb-true _ _ (and-true (ltb (a .t) (a .tasks)) (bit (a .may) (a .t)) (held _ (k .task-ok .ensures) (c .before .if2 .left)) .0) in
-    (search needs, (search needs, (omega arith, search needs)))
-
-returns-3 : tie.Need-returns-3
-returns-3 c =
-    let k = c .before .before .before in
-    or-on _ _ (ne-eqb _ _ (k .before .if1 .left)) (guard-on _ _ (k .task-ok .ensures) (c .before .before .if2 .left) (c .tanks-ok .ensures ∙ rw (c .before .wide .ensures)))
+abbrev μ-loop : tie.MeasureT-loop
+μ-loop running chosen p n groups s₀ s = n - s
 
 pub runs-ok-spec : {M : Type 1} → statement M
 runs-ok-spec =
     tie.close
-    (tie.spec returns (λ c κs. search needs) returns-2 (λ c κs. search needs) tanks-ok-requires returns-3)
+    (tie.spec Inv-loop μ-loop (λ c. search (needs, scan)) (λ c. search (needs, scan)) (λ c. search (needs, scan)) (λ c. search (needs, scan)) (λ c κs. search (needs, scan)) (λ c. search (needs, scan)) (λ c. search (needs, scan)) (λ c. search (needs, scan)) (λ c. search (needs, scan)) (λ c. search (needs, scan)))

@@ -8,9 +8,9 @@ returns : tie.Need-returns
 returns c = simp (le-ltb _ _ (c .if1 .taken))
 
 returns-2 : tie.Need-returns-2
-returns-2 c = simp (lt-ltb _ _ (c .if1 .left))
+returns-2 c = simp (lt-ltb _ _ (c .before .if1 .left))
 
 pub task-ok-spec : {M : Type 1} → statement M
 task-ok-spec =
     tie.close
-    (tie.spec returns (λ c. search needs) returns-2)
+    (tie.spec returns (λ c. search needs) (λ c. search needs) (λ c. search needs) returns-2)
