@@ -3,3 +3,4 @@ pub mod Known
 pub mod Early
 pub mod Ready
 pub mod Meet
+pub mod Turns

@@ -1,16 +1,19 @@
 -- What the work of each call does on the arrays that are lent to it. proofs/Meet has that on a record that passes test 20 this is what the rules say.
 use mathlib.Core.Path.{_≡_}
-use Prim.Native.Nat.{ℕ, _+_, _*_}
+use Prim.Native.Nat.{ℕ, _+_, _*_, _<_}
 use mathlib.Core.Bool.{Bool, true, false, not, cond, _&&_, _||_}
 use mathlib.Core.List.{List, [], _∷_}
 use lib.Dec.{eqb, ltb, leb}
 use lib.ListN.{getD, replicate}
 use lib.ListN as ListN
-use Rattle.base.specs.Below.{anyBelow}
+use Rattle.base.specs.Below.{allBelow, anyBelow}
 use Rattle.base.specs.Bits.{bit}
 use Rattle.base.specs.Chain.{_gives_, first}
 use Rattle.base.specs.Fill.{fill}
+use Rattle.plant.specs.Checks.{entryBelow}
 use Rattle.choice.specs.Search.{choiceIn}
+use Rattle.rules.specs.Rules.{Call}
+use Rattle.rules.specs.Rules as call
 use Rattle.rules.specs.Record.{levelAt, chosenAt, fillFrom}
 
 -- a stored task is none or a task; a stored level is unset or a level
@@ -96,3 +99,36 @@ module _ (sets group level lattice requirement rights may levels running chosen 
     pub answers : number ≡ startNumber
     pub runs : running′ ≡ cond (eqb startNumber 0) (ListN.set running s t) running
     pub chooses : chosen′ ≡ cond (eqb startNumber 0) (fillFrom chosen (s * 8) (getRow startRow) 8) chosen
+
+-- A request: the kind and four bytes in the order of the call's arguments, unused ones ignored.
+abbrev pub callBy : ℕ → ℕ → ℕ → ℕ → ℕ → Call
+callBy kind a b c d =
+    cond (eqb kind 0) (call.set a b c d)
+    (cond (eqb kind 1) (call.start a b)
+    (cond (eqb kind 2) (call.stop a)
+    (cond (eqb kind 3) (call.gate a b c)
+    call.unknown)))
+
+-- What a request answers and what the changing parts then are, on the arrays that are lent.
+module _ (sizes sets lattice requirement group level rights may levels running chosen : List ℕ) (skids tasks requirements groups tanks kind a b c d : ℕ) where
+  abbrev pub startOf : ℕ
+  startOf = startNumber sets group level lattice requirement rights may levels running chosen skids tasks groups tanks a b
+
+  abbrev pub setOf : ℕ
+  setOf = setNumber sizes lattice skids tasks requirements a b c d
+
+  pub record Turned (number : ℕ) (levels′ running′ chosen′ : List ℕ) : Type 0 where
+    pub answers : number ≡ cond (eqb kind 0) setOf (cond (eqb kind 1) startOf (cond (eqb kind 2) (stopNumber skids a) (cond (eqb kind 3) (gateAnswer group rights running chosen skids tanks a b c) 32)))
+    pub sets-levels : levels′ ≡ cond (eqb kind 0) (setLevels setOf levels a b c d) levels
+    pub runs : running′ ≡ cond (eqb kind 1) (cond (eqb startOf 0) (ListN.set running a b) running) (cond (eqb kind 2) (stopRunning skids a running) running)
+    pub chooses : chosen′ ≡ cond (eqb kind 1) (cond (eqb startOf 0) (fillFrom chosen (a * 8) (getRow (startRow sets group level lattice requirement rights may levels running chosen skids tasks groups tanks a b)) 8) chosen) (cond (eqb kind 2) (stopChosen skids a chosen) chosen)
+
+-- What every request leans on, in the arrays: links within their counts, and stored tasks and levels that can be looked up.
+pub record Lent (lattice requirement group level levels running : List ℕ) (skids tasks requirements groups tanks : ℕ) : Type 0 where
+  pub lattices-there : allBelow (entryBelow lattice 8) requirements ≡ true
+  pub requirements-there : allBelow (entryBelow requirement 8) groups ≡ true
+  pub links-there : allBelow (linkIn lattice requirement) groups ≡ true
+  pub groups-there : allBelow (entryBelow group 8) tanks ≡ true
+  pub levels-there : allBelow (entryBelow level 16) tanks ≡ true
+  pub tasks-known : allBelow (taskKnown running) skids ≡ true
+  pub wishes-known : (s t : ℕ) → s < skids → t < tasks → allBelow (wishKnown requirement levels s t) groups ≡ true

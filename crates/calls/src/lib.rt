@@ -6,7 +6,7 @@ ghost use lib.ListN.{getD, replicate, set};
 ghost use Rattle.base.specs.Below.{allBelow, anyBelow};
 ghost use Rattle.plant.specs.Checks.{entryBelow};
 ghost use Rattle.rules.specs.Record.{fillFrom};
-ghost use Rattle.calls.specs.Work.{taskKnown, levelKnown, setNumber, setLevels, gateAnswer, blankIn, pickIn, rowIn, lackingIn, startEarly, linkIn, wishKnown, Started, heldIn, getRow, stopNumber, stopRunning, stopChosen};
+ghost use Rattle.calls.specs.Work.{taskKnown, levelKnown, setNumber, setLevels, gateAnswer, blankIn, pickIn, rowIn, lackingIn, startEarly, linkIn, wishKnown, Lent, Started, Turned, heldIn, getRow, stopNumber, stopRunning, stopChosen};
 use choice::choose;
 
 fn wide(x: u8) -> usize
@@ -362,4 +362,75 @@ pub fn start_at<'a>(
     running[s as usize] = t;
     put_row(chosen, s as usize, row);
     0
+}
+
+// One request of any kind: 0 set, 1 start, 2 stop, 3 gate, and 32 for another.
+pub fn turn<'a>(
+    sizes: &'a [u8; 8],
+    sets: &'a [u16; 128],
+    lattice: &'a [u8; 8],
+    requirement: &'a [u8; 8],
+    group: &'a [u8; 64],
+    level: &'a [u8; 64],
+    rights: &'a [u8; 128],
+    may: &'a [u16; 8],
+    levels: &mut [u8; 1024],
+    running: &mut [u8; 8],
+    chosen: &mut [u8; 64],
+    skids: u8,
+    tasks: u8,
+    requirements: u8,
+    groups: u8,
+    tanks: u8,
+    kind: u8,
+    a: u8,
+    b: u8,
+    c: u8,
+    d: u8,
+) -> u8
+    requires { ⌜ (skids ≤ 8) × ((tasks ≤ 16) × ((requirements ≤ 8) × ((groups ≤ 8) × (tanks ≤ 64)))) ⌝ }
+    requires { ⌜ Lent (now lattice) (now requirement) (now group) (now level) (now levels) (now running) skids tasks requirements groups tanks ⌝ }
+    ensures { λ r. ⌜ Turned (now (sizes .entry)) (now (sets .entry)) (now (lattice .entry)) (now (requirement .entry)) (now (group .entry)) (now (level .entry)) (now (rights .entry)) (now (may .entry)) (now (levels .entry)) (now (running .entry)) (now (chosen .entry)) skids tasks requirements groups tanks kind a b c d r (now (levels .exit)) (now (running .exit)) (now (chosen .exit)) ⌝ }
+{
+    if kind == 0 {
+        return set_at(
+            levels,
+            sizes,
+            lattice,
+            skids,
+            tasks,
+            requirements,
+            a,
+            b,
+            c,
+            d,
+        );
+    }
+    if kind == 1 {
+        return start_at(
+            sets,
+            group,
+            level,
+            lattice,
+            requirement,
+            rights,
+            may,
+            levels,
+            running,
+            chosen,
+            skids,
+            tasks,
+            groups,
+            tanks,
+            a,
+            b,
+        );
+    }
+    if kind == 2 {
+        return stop_at(running, chosen, skids, a);
+    }
+    if kind == 3 {
+        return gate_at(group, rights, running, chosen, skids, tanks, a, b, c);
+    }
+    32
 }
