@@ -1,0 +1,75 @@
+// A list of requests served from the fresh monitor, on lent arrays: the record is never copied.
+ghost use mathlib.Core.Path.{_≡_};
+ghost use mathlib.Core.Bool.{true};
+ghost use Prim.Native.Nat.{ℕ, _+_, _*_, _<_, _≤_};
+ghost use lib.ListN.{length};
+ghost use Rattle.base.specs.Overlay.{overlay};
+ghost use Rattle.plant.specs.Checks.{plantRefusal};
+ghost use Rattle.rules.specs.Record.{fresh};
+ghost use Rattle.rules.specs.Run.{runs, ends};
+ghost use Rattle.batch.specs.Requests.{requestAt, callsOf};
+use calls::turn;
+use plant::Plant;
+
+// The changing parts of a monitor, beside its plant.
+pub struct Parts {
+    pub levels: [u8; 1024],
+    pub running: [u8; 8],
+    pub chosen: [u8; 64],
+}
+
+fn request_at(bytes: &[u8], i: usize) -> [u8; 5]
+    requires { ⌜ i * 5 + 5 ≤ length (now bytes) ⌝ }
+    ensures { λ r. ⌜ r ≡ requestAt (now (bytes .entry)) i ⌝ }
+{
+    let k = i * 5;
+    [
+        bytes[k],
+        bytes[k + 1],
+        bytes[k + 2],
+        bytes[k + 3],
+        bytes[k + 4],
+    ]
+}
+
+// The n answers, from the fresh monitor, and the changing parts after the last request.
+pub fn serve(p: Plant, bytes: &[u8], n: usize, out: &mut [u8]) -> Parts
+    requires { ⌜ plantRefusal true true p ≡ 0 ⌝ }
+    requires { ⌜ (n * 5 ≤ length (now bytes)) × (n ≤ length (now out)) ⌝ }
+    ensures { λ r. ⌜ (record { plant = p; levels = r .levels; running = r .running; chosen = r .chosen } ≡ ends (fresh p) (callsOf (now (bytes .entry)) n)) × (now (out .exit) ≡ overlay (now (out .entry)) 0 (runs (fresh p) (callsOf (now (bytes .entry)) n))) ⌝ }
+{
+    let mut levels = [255u8; 1024];
+    let mut running = [255u8; 8];
+    let mut chosen = [255u8; 64];
+    for i in 0..n {
+        let r = request_at(bytes, i);
+        out[i] = turn(
+            &p.sizes,
+            &p.sets,
+            &p.lattice,
+            &p.requirement,
+            &p.group,
+            &p.level,
+            &p.rights,
+            &p.may,
+            &mut levels,
+            &mut running,
+            &mut chosen,
+            p.skids,
+            p.tasks,
+            p.requirements,
+            p.groups,
+            p.tanks,
+            r[0],
+            r[1],
+            r[2],
+            r[3],
+            r[4],
+        );
+    }
+    Parts {
+        levels: levels,
+        running: running,
+        chosen: chosen,
+    }
+}
