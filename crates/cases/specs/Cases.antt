@@ -1,9 +1,10 @@
--- The worked cases of the paper, each with the answer that it gives, as one list.
+-- The worked cases of the paper, P1 to P10, and two by its rules, each with its answer, as one list.
 use Prim.Native.Nat.{ℕ, zero, suc, _-_}
 use mathlib.Core.Bool.{Bool, true, false, cond, _&&_}
 use mathlib.Core.List.{List, [], _∷_, _++_}
 use lib.Dec.{eqb}
 use lib.ListN.{length, replicate}
+use lib.ListN as ListN
 use Rattle.lattice.specs.declared.Lattice.{Lattice}
 use Rattle.lattice.specs.Levels as levels
 use Rattle.plant.specs.declared.Plant.{Plant}
@@ -49,6 +50,14 @@ session =
     -- skids
     ∷ 3 ∷ 0 ∷ 2 ∷ 0
     ∷ []
+
+-- The same plant with the two requirements' lattices exchanged, by rules alone and not from the paper: a lattice is then not found by its
+-- requirement's number, and the levels of both differ.
+unfoldable pub crossed : List ℕ
+crossed = ListN.set (ListN.set session 92 1) 94 0
+
+unfoldable pub crossedCalls : List Call
+crossedCalls = set 0 0 0 3 ∷ set 0 0 1 3 ∷ set 0 0 0 1 ∷ set 0 0 1 2 ∷ start 0 0 ∷ gate 0 0 0 ∷ gate 0 3 2 ∷ gate 0 2 2 ∷ []
 
 unfoldable pub requests : List Call
 requests = start 0 0 ∷ set 0 0 0 1 ∷ set 0 0 1 3 ∷ start 0 0 ∷ gate 0 0 0 ∷ set 0 0 0 2 ∷ gate 0 1 0 ∷ start 0 1 ∷ stop 1 ∷ start 1 0 ∷ []
@@ -120,6 +129,10 @@ cases =
     ∷ answers session (set 0 0 0 1 ∷ set 0 0 1 0 ∷ start 0 0 ∷ []) (0 ∷ 0 ∷ 28 ∷ [])
     -- P10: under level 1 the middle tank
     ∷ chosen threeTanks 1 1
+    -- requirement 0 in lattice 1 and requirement 1 in lattice 0: level 3 is one of the first and none of the second; under 1 of the first
+    -- tank 1 at level 2 is not at or under, and under 2 of the second tank 3 at level 2 is
+    ∷ opening crossed 0
+    ∷ answers crossed crossedCalls (0 ∷ 24 ∷ 0 ∷ 0 ∷ 0 ∷ 0 ∷ 0 ∷ 33 ∷ [])
     ∷ []
 
 unfoldable pub every : List Case → Bool

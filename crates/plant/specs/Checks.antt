@@ -153,7 +153,7 @@ module _ (p : Plant) where
     pub lattice-in : (d : ℕ) → d < p .requirements → latticeOf p d < p .lattices
     pub requirement-in : (g : ℕ) → g < p .groups → requirementOf p g < p .requirements
     pub group-in : (o : ℕ) → o < p .tanks → groupOf p o < p .groups
-    pub level-in : (o : ℕ) → o < p .tanks → levelOf p o < levelsOf p (requirementOf p (groupOf p o))
+    pub level-in : (o : ℕ) → o < p .tanks → levelOf p o < latticeAt p (latticeOf p (requirementOf p (groupOf p o))) .n
     pub names-in : (t d : ℕ) → t < p .tasks → namesRequirement p t d ≡ true → d < p .requirements
     pub rights-known : (t g r : ℕ) → t < p .tasks → g < 8 → namesRight p t r g ≡ true → r < rights
     pub rights-in : (t g : ℕ) → t < p .tasks → g < 8 → p .groups ≤ g → rightsOf p t g ≡ 0
