@@ -21,3 +21,7 @@ module _ (m : Monitor) (c : Call) {b : Bool} (e : b ≡ intact (m .plant) m) whe
   pub stepped-on : not b ≡ false → {a : ℕ} {m′ : Monitor} → a ≡ answer (m .plant) (viewOf (m .plant) m) c → m′ ≡ stepped (m .plant) m c → record { answer = a; monitor = m′ } ≡ stepOf m c
   unfolding reply after
   stepped-on n p q = rw (← e, not-false b n, p, q)
+
+-- the same on a record that is known to pass
+pub passed-on : (m : Monitor) → intact (m .plant) m ≡ true → (c : Call) {a : ℕ} {m′ : Monitor} → a ≡ answer (m .plant) (viewOf (m .plant) m) c → m′ ≡ stepped (m .plant) m c → record { answer = a; monitor = m′ } ≡ stepOf m c
+passed-on m i c p q = stepped-on m c (sym i) refl p q

@@ -2,13 +2,12 @@
 ghost use mathlib.Core.Path.{_≡_};
 ghost use lib.ListN.{replicate};
 ghost use Rattle.rules.specs.Rules.{set, start, stop, gate};
-ghost use Rattle.rules.specs.Record.{fresh};
+ghost use mathlib.Core.Bool.{true};
+ghost use Rattle.rules.specs.Record.{fresh, intact};
+ghost use Rattle.calls.specs.Work.{callBy};
 ghost use Rattle.intact.specs.Zeros.{zeroMonitor};
 ghost use Rattle.monitor.specs.Calls.{stepOf, openedOf};
-use calls::gate_at;
-use calls::set_at;
-use calls::start_at;
-use calls::stop_at;
+use calls::turn;
 use intact::is_intact;
 use plant::Plant;
 use rules::Monitor;
@@ -62,74 +61,37 @@ pub fn open(file: &[u8]) -> Answered
     }
 }
 
-// Set (skid, task, requirement, level): 20, 21, 22, 23, 24, or the level is stored.
-pub fn set_level(m: Monitor, skid: u8, task: u8, requirement: u8, level: u8) -> Answered
-    ensures { λ r. ⌜ r ≡ stepOf m (set skid task requirement level) ⌝ }
+// One request on a record that has passed test 20. The record is taken apart once and made anew once; the work is on lent arrays.
+pub fn advance(m: Monitor, kind: u8, a: u8, b: u8, c: u8, d: u8) -> Answered
+    requires { ⌜ intact (m .plant) m ≡ true ⌝ }
+    ensures { λ r. ⌜ r ≡ stepOf m (callBy kind a b c d) ⌝ }
 {
-    if !is_intact(m) {
-        return Answered {
-            answer: 20,
-            monitor: m,
-        };
-    }
     let p = m.plant;
     let mut levels = m.levels;
-    let running = m.running;
-    let chosen = m.chosen;
-    let answer = set_at(
-        &mut levels,
-        &p.sizes,
-        &p.lattice,
-        p.skids,
-        p.tasks,
-        p.requirements,
-        skid,
-        task,
-        requirement,
-        level,
-    );
-    Answered {
-        answer: answer,
-        monitor: Monitor {
-            plant: p,
-            levels: levels,
-            running: running,
-            chosen: chosen,
-        },
-    }
-}
-
-// Start (skid, task): 20, 21, 22, 25, 26, 27, 28, or the task runs.
-pub fn start_task(m: Monitor, skid: u8, task: u8) -> Answered
-    ensures { λ r. ⌜ r ≡ stepOf m (start skid task) ⌝ }
-{
-    if !is_intact(m) {
-        return Answered {
-            answer: 20,
-            monitor: m,
-        };
-    }
-    let p = m.plant;
-    let levels = m.levels;
     let mut running = m.running;
     let mut chosen = m.chosen;
-    let answer = start_at(
+    let answer = turn(
+        &p.sizes,
         &p.sets,
-        &p.group,
-        &p.level,
         &p.lattice,
         &p.requirement,
+        &p.group,
+        &p.level,
         &p.rights,
         &p.may,
-        &levels,
+        &mut levels,
         &mut running,
         &mut chosen,
         p.skids,
         p.tasks,
+        p.requirements,
         p.groups,
         p.tanks,
-        skid,
-        task,
+        kind,
+        a,
+        b,
+        c,
+        d,
     );
     Answered {
         answer: answer,
@@ -142,58 +104,43 @@ pub fn start_task(m: Monitor, skid: u8, task: u8) -> Answered
     }
 }
 
-// Stop (skid): 20, 21, or the skid runs nothing.
+// One request of any kind on any record whatever: test 20, and the request behind it.
+pub fn call(m: Monitor, kind: u8, a: u8, b: u8, c: u8, d: u8) -> Answered
+    ensures { λ r. ⌜ r ≡ stepOf m (callBy kind a b c d) ⌝ }
+{
+    if !is_intact(m) {
+        return Answered {
+            answer: 20,
+            monitor: m,
+        };
+    }
+    advance(m, kind, a, b, c, d)
+}
+
+// Set: 20, 21, 22, 23, 24, or the level is stored.
+pub fn set_level(m: Monitor, skid: u8, task: u8, requirement: u8, level: u8) -> Answered
+    ensures { λ r. ⌜ r ≡ stepOf m (set skid task requirement level) ⌝ }
+{
+    call(m, 0, skid, task, requirement, level)
+}
+
+// Start: 20, 21, 22, 25, 26, 27, 28, or the task runs.
+pub fn start_task(m: Monitor, skid: u8, task: u8) -> Answered
+    ensures { λ r. ⌜ r ≡ stepOf m (start skid task) ⌝ }
+{
+    call(m, 1, skid, task, 0, 0)
+}
+
+// Stop: 20, 21, or the skid runs nothing.
 pub fn stop_task(m: Monitor, skid: u8) -> Answered
     ensures { λ r. ⌜ r ≡ stepOf m (stop skid) ⌝ }
 {
-    if !is_intact(m) {
-        return Answered {
-            answer: 20,
-            monitor: m,
-        };
-    }
-    let p = m.plant;
-    let levels = m.levels;
-    let mut running = m.running;
-    let mut chosen = m.chosen;
-    let answer = stop_at(&mut running, &mut chosen, p.skids, skid);
-    Answered {
-        answer: answer,
-        monitor: Monitor {
-            plant: p,
-            levels: levels,
-            running: running,
-            chosen: chosen,
-        },
-    }
+    call(m, 2, skid, 0, 0, 0)
 }
 
-// Gate (skid, tank, right): 20, 21, 29, 30; 0 where the skid holds the right, else 33.
+// Gate: 20, 21, 29, 30; 0 where the skid holds the right, else 33.
 pub fn ask_gate(m: Monitor, skid: u8, tank: u8, right: u8) -> Answered
     ensures { λ r. ⌜ r ≡ stepOf m (gate skid tank right) ⌝ }
 {
-    if !is_intact(m) {
-        return Answered {
-            answer: 20,
-            monitor: m,
-        };
-    }
-    let p = m.plant;
-    let running = m.running;
-    let chosen = m.chosen;
-    let answer = gate_at(
-        &p.group,
-        &p.rights,
-        &running,
-        &chosen,
-        p.skids,
-        p.tanks,
-        skid,
-        tank,
-        right,
-    );
-    Answered {
-        answer: answer,
-        monitor: m,
-    }
+    call(m, 3, skid, tank, right, 0)
 }

@@ -2,15 +2,10 @@
 ghost use mathlib.Core.Path.{_≡_};
 ghost use mathlib.Core.Bool.{true};
 ghost use Rattle.base.specs.Overlay.{overlay};
-ghost use Rattle.rules.specs.Rules.{set, start, stop, gate};
 ghost use Rattle.rules.specs.Record.{intact, replies};
 ghost use Rattle.monitor.specs.Calls.{stepOf};
 ghost use Rattle.requests.specs.Requests.{callOf};
 ghost use Rattle.queue.specs.Queue.{admitOf, made, queueOf};
-use calls::gate_at;
-use calls::set_at;
-use calls::start_at;
-use calls::stop_at;
 use intact::is_intact;
 use monitor::Answered;
 use requests::Request;
@@ -35,135 +30,12 @@ pub fn admit(m: Monitor, n: usize, room: usize) -> Admitted
     Admitted { code: 0, count: n }
 }
 
-// The calls on a record that has passed test 20.
-fn set_on(m: Monitor, skid: u8, task: u8, requirement: u8, level: u8) -> Answered
-    requires { ⌜ intact (m .plant) m ≡ true ⌝ }
-    ensures { λ r. ⌜ r ≡ stepOf m (set skid task requirement level) ⌝ }
-{
-    let p = m.plant;
-    let mut levels = m.levels;
-    let running = m.running;
-    let chosen = m.chosen;
-    let answer = set_at(
-        &mut levels,
-        &p.sizes,
-        &p.lattice,
-        p.skids,
-        p.tasks,
-        p.requirements,
-        skid,
-        task,
-        requirement,
-        level,
-    );
-    Answered {
-        answer: answer,
-        monitor: Monitor {
-            plant: p,
-            levels: levels,
-            running: running,
-            chosen: chosen,
-        },
-    }
-}
-
-fn start_on(m: Monitor, skid: u8, task: u8) -> Answered
-    requires { ⌜ intact (m .plant) m ≡ true ⌝ }
-    ensures { λ r. ⌜ r ≡ stepOf m (start skid task) ⌝ }
-{
-    let p = m.plant;
-    let levels = m.levels;
-    let mut running = m.running;
-    let mut chosen = m.chosen;
-    let answer = start_at(
-        &p.sets,
-        &p.group,
-        &p.level,
-        &p.lattice,
-        &p.requirement,
-        &p.rights,
-        &p.may,
-        &levels,
-        &mut running,
-        &mut chosen,
-        p.skids,
-        p.tasks,
-        p.groups,
-        p.tanks,
-        skid,
-        task,
-    );
-    Answered {
-        answer: answer,
-        monitor: Monitor {
-            plant: p,
-            levels: levels,
-            running: running,
-            chosen: chosen,
-        },
-    }
-}
-
-fn stop_on(m: Monitor, skid: u8) -> Answered
-    requires { ⌜ intact (m .plant) m ≡ true ⌝ }
-    ensures { λ r. ⌜ r ≡ stepOf m (stop skid) ⌝ }
-{
-    let p = m.plant;
-    let levels = m.levels;
-    let mut running = m.running;
-    let mut chosen = m.chosen;
-    let answer = stop_at(&mut running, &mut chosen, p.skids, skid);
-    Answered {
-        answer: answer,
-        monitor: Monitor {
-            plant: p,
-            levels: levels,
-            running: running,
-            chosen: chosen,
-        },
-    }
-}
-
-fn gate_on(m: Monitor, skid: u8, tank: u8, right: u8) -> Answered
-    requires { ⌜ intact (m .plant) m ≡ true ⌝ }
-    ensures { λ r. ⌜ r ≡ stepOf m (gate skid tank right) ⌝ }
-{
-    let p = m.plant;
-    let running = m.running;
-    let chosen = m.chosen;
-    let answer = gate_at(
-        &p.group,
-        &p.rights,
-        &running,
-        &chosen,
-        p.skids,
-        p.tanks,
-        skid,
-        tank,
-        right,
-    );
-    Answered {
-        answer: answer,
-        monitor: m,
-    }
-}
-
 // One request on a record that has passed test 20: the answer is that of a tested call, and the record still passes.
 pub fn advance(m: Monitor, r: Request) -> Answered
     requires { ⌜ intact (m .plant) m ≡ true ⌝ }
     ensures { λ x. ⌜ (x ≡ stepOf m (callOf r)) × (intact (x .monitor .plant) (x .monitor) ≡ true) ⌝ }
 {
-    let kind = r.kind;
-    match kind {
-        0 => set_on(m, r.a, r.b, r.c, r.d),
-        1 => start_on(m, r.a, r.b),
-        2 => stop_on(m, r.a),
-        3 => gate_on(m, r.a, r.b, r.c),
-        _ => Answered {
-            answer: 32,
-            monitor: m,
-        },
-    }
+    monitor::advance(m, r.kind, r.a, r.b, r.c, r.d)
 }
 
 // Answer i is that of request i; a refused queue changes nothing, and the bytes beyond the answers stay as they are.
