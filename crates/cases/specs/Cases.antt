@@ -1,4 +1,4 @@
--- The worked cases of the paper, P1 to P10, and two by its rules, each with its answer, as one list.
+-- The worked cases of the paper, P1 to P10, and three by its rules, each with its answer, as one list.
 use Prim.Native.Nat.{ℕ, zero, suc, _-_}
 use mathlib.Core.Bool.{Bool, true, false, cond, _&&_}
 use mathlib.Core.List.{List, [], _∷_, _++_}
@@ -129,6 +129,8 @@ cases =
     ∷ answers session (set 0 0 0 1 ∷ set 0 0 1 0 ∷ start 0 0 ∷ []) (0 ∷ 0 ∷ 28 ∷ [])
     -- P10: under level 1 the middle tank
     ∷ chosen threeTanks 1 1
+    -- in lattice 1 level 1 is not at or under level 2, though its number is lower: under 2 the tank at 2 is chosen, and not the one at 1
+    ∷ answers session (set 0 0 0 0 ∷ set 0 0 1 2 ∷ start 0 0 ∷ gate 0 3 0 ∷ gate 0 2 0 ∷ []) (0 ∷ 0 ∷ 0 ∷ 0 ∷ 33 ∷ [])
     -- requirement 0 in lattice 1 and requirement 1 in lattice 0: level 3 is one of the first and none of the second; under 1 of the first
     -- tank 1 at level 2 is not at or under, and under 2 of the second tank 3 at level 2 is
     ∷ opening crossed 0

@@ -7,7 +7,13 @@ use borrow.Author.Tests.{eqb-true, eq-eqb}
 use Rattle.plant.specs.declared.Plant.{Plant}
 use Rattle.plant.specs.Plant.{under, requirementOf, groupOf, levelOf, levelsOf}
 use Rattle.plant.specs.Valid.{Valid}
-use Rattle.choice.specs.Choice.{tankLe, tankEq}
+use Rattle.choice.specs.Choice.{fits, tankLe, tankEq}
+
+-- A tank is at or under a wish at another tank's level exactly where it is at or under that tank: both read the lattice's order, and not
+-- the levels' numbers.
+pub fits-tank : (P : Plant) (g a b : ℕ) → fits P g (λ d. levelOf P b) a ≡ tankLe P g a b
+unfolding fits tankLe
+fits-tank P g a b = refl
 
 pub tank-self : (P : Plant) (g a : ℕ) → tankEq P g a a ≡ true
 unfolding tankEq
