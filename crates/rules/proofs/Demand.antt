@@ -63,14 +63,14 @@ module _ (P : Plant) (W : Sound P) (cs : List Call) where
 
   tank : (s g r : ℕ) → (viewOf P (final (fresh P) cs) s) .running ≢ unset → g < P .groups → r < 3
       → namesRight P ((viewOf P (final (fresh P) cs) s) .running) r g ≡ true
-      → (o : ℕ) × (groupOf P o ≡ g) × (holds P (viewOf P (final (fresh P) cs) s) o r ≡ true)
+      → (o : ℕ) × (o < P .tanks) × (groupOf P o ≡ g) × (holds P (viewOf P (final (fresh P) cs) s) o r ≡ true)
       × ((o′ : ℕ) → o′ < P .tanks → groupOf P o′ ≡ g → holds P (viewOf P (final (fresh P) cs) s) o′ r ≡ true → o′ ≡ o)
   tank s g r n l k m = made (task s ((viewOf P (final (fresh P) cs) s) .running) n .0 refl)
     where
-      made : (b : List Call) × Runs (history P [] cs) s ((viewOf P (final (fresh P) cs) s) .running) b → (o : ℕ) × (groupOf P o ≡ g) × (holds P (viewOf P (final (fresh P) cs) s) o r ≡ true)
+      made : (b : List Call) × Runs (history P [] cs) s ((viewOf P (final (fresh P) cs) s) .running) b → (o : ℕ) × (o < P .tanks) × (groupOf P o ≡ g) × (holds P (viewOf P (final (fresh P) cs) s) o r ≡ true)
           × ((o′ : ℕ) → o′ < P .tanks → groupOf P o′ ≡ g → holds P (viewOf P (final (fresh P) cs) s) o′ r ≡ true → o′ ≡ o)
       made R = let T = one-tank P X (history P [] cs) S s ((viewOf P (final (fresh P) cs) s) .running) (R .0) (R .1) g r l k m in
-          (T .tank, T .of-group, held s (T .tank) r (T .given .chosen .is-nearest .is-tank) k .1 (T .given), λ o′ lo e h. T .only o′ e (held s o′ r lo k .0 h))
+          (T .tank, T .given .chosen .is-nearest .is-tank, T .of-group, held s (T .tank) r (T .given .chosen .is-nearest .is-tank) k .1 (T .given), λ o′ lo e h. T .only o′ e (held s o′ r lo k .0 h))
 
   nothing : (s o r : ℕ) → (viewOf P (final (fresh P) cs) s) .running ≡ unset → holds P (viewOf P (final (fresh P) cs) s) o r ≡ false
   unfolding holds

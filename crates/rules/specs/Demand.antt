@@ -16,7 +16,7 @@ pub record Demand3 (P : Plant) (cs : List Call) : Type 0 where
   -- Every answer is the history's, and test 20 refuses none on the way.
   pub answers : replies (fresh P) cs ≡ dues P [] cs
   pub never-20 : intact P (final (fresh P) cs) ≡ true
-  -- A right is held, and a gate call for it would return 0, exactly where the history gives it
+  -- A right is held, and a gate call for it would return 0, exactly where the history gives it.
   pub held : (s o r : ℕ) → o < P .tanks → r < 3 → holds P (viewOf P (final (fresh P) cs) s) o r ≡ true ↔ Gives P (history P [] cs) s o r
   pub gates : (s o r : ℕ) → reply P (final (fresh P) cs) (gate s o r) ≡ 0 ↔ Gives P (history P [] cs) s o r
   -- A skid runs at most one task, that of such a start.
@@ -24,7 +24,7 @@ pub record Demand3 (P : Plant) (cs : List Call) : Type 0 where
   -- While it runs one it holds exactly one tank for each right that its task names on each group, and while it runs none nothing.
   pub tank : (s g r : ℕ) → (viewOf P (final (fresh P) cs) s) .running ≢ unset → g < P .groups → r < 3
       → namesRight P ((viewOf P (final (fresh P) cs) s) .running) r g ≡ true
-      → (o : ℕ) × (groupOf P o ≡ g) × (holds P (viewOf P (final (fresh P) cs) s) o r ≡ true)
+      → (o : ℕ) × (o < P .tanks) × (groupOf P o ≡ g) × (holds P (viewOf P (final (fresh P) cs) s) o r ≡ true)
       × ((o′ : ℕ) → o′ < P .tanks → groupOf P o′ ≡ g → holds P (viewOf P (final (fresh P) cs) s) o′ r ≡ true → o′ ≡ o)
   pub nothing : (s o r : ℕ) → (viewOf P (final (fresh P) cs) s) .running ≡ unset → holds P (viewOf P (final (fresh P) cs) s) o r ≡ false
   -- Striking out every call that names another skid leaves this skid's answers, in their order, and its rights.
