@@ -8,7 +8,8 @@ use requests::step;
 use rules::Monitor;
 
 // Opening: the number that refuses the file, or 0. The record lent is then the fresh monitor, or the record of zeros, whatever it was before.
-pub fn permits_open(m: &mut Monitor, file: &[u8]) -> u8
+#[no_mangle]
+pub extern "C" fn permits_open(m: &mut Monitor, file: &[u8]) -> u8
     ensures { λ x. ⌜ (x ≡ openedOf (now (file .entry)) .answer) × (now (m .exit) ≡ openedOf (now (file .entry)) .monitor) ⌝ }
 {
     let a = open(file);
@@ -17,7 +18,8 @@ pub fn permits_open(m: &mut Monitor, file: &[u8]) -> u8
 }
 
 // Set, start, stop or gate, by the request's kind. One signature serves all four, and any that comes later.
-pub fn permits_call(m: &mut Monitor, r: Request) -> u8
+#[no_mangle]
+pub extern "C" fn permits_call(m: &mut Monitor, r: Request) -> u8
     ensures { λ x. ⌜ (x ≡ stepOf (now (m .entry)) (callOf r) .answer) × (now (m .exit) ≡ stepOf (now (m .entry)) (callOf r) .monitor) ⌝ }
 {
     let a = step(*m, r);

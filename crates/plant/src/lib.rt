@@ -17,6 +17,7 @@ use layout::count_ok;
 
 // Everything that opening reads from the file, in flat arrays, since only arrays of numbers can be lent. Entries past the counts are not
 // part of the plant.
+#[repr(C)]
 pub struct Plant {
     pub lattices: u8,
     pub requirements: u8,
