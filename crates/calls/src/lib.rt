@@ -16,7 +16,7 @@ fn wide(x: u8) -> usize
 }
 
 // Set: 21 to 24, or the level is stored.
-pub fn set_at<'a>(
+fn set_at<'a>(
     levels: &mut [u8; 1024],
     sizes: &'a [u8; 8],
     lattice: &'a [u8; 8],
@@ -50,7 +50,7 @@ pub fn set_at<'a>(
 }
 
 // Gate: 21, 29, 30; 0 where the skid holds the right, and else 33.
-pub fn gate_at<'a, 'b>(
+fn gate_at<'a, 'b>(
     group: &'a [u8; 64],
     rights: &'a [u8; 128],
     running: &'b [u8; 8],
@@ -156,7 +156,7 @@ fn put_row(chosen: &mut [u8; 64], s: usize, row: [u8; 8])
 }
 
 // Stop: 21, or the skid runs nothing and has no tank.
-pub fn stop_at(running: &mut [u8; 8], chosen: &mut [u8; 64], skids: u8, s: u8) -> u8
+fn stop_at(running: &mut [u8; 8], chosen: &mut [u8; 64], skids: u8, s: u8) -> u8
     requires { ⌜ skids ≤ 8 ⌝ }
     ensures { λ r. ⌜ (r ≡ stopNumber skids s) × ((now (running .exit) ≡ stopRunning skids s (now (running .entry))) × (now (chosen .exit) ≡ stopChosen skids s (now (chosen .entry)))) ⌝ }
 {
@@ -304,7 +304,7 @@ fn start_early<'a, 'b>(
 }
 
 // Start: 21 to 28, or the task runs and its groups get their choice, the skid's other groups 255.
-pub fn start_at<'a>(
+fn start_at<'a>(
     sets: &'a [u16; 128],
     group: &'a [u8; 64],
     level: &'a [u8; 64],

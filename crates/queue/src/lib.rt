@@ -18,7 +18,7 @@ pub struct Admitted {
 }
 
 // 20: the record. 31: fewer answer bytes than requests.
-pub fn admit(m: Monitor, n: usize, room: usize) -> Admitted
+fn admit(m: Monitor, n: usize, room: usize) -> Admitted
     ensures { λ r. ⌜ r ≡ admitOf m n room ⌝ }
 {
     if !is_intact(m) {
@@ -31,7 +31,7 @@ pub fn admit(m: Monitor, n: usize, room: usize) -> Admitted
 }
 
 // One request on a record that has passed test 20: the answer is that of a tested call, and the record still passes.
-pub fn advance(m: Monitor, r: Request) -> Answered
+fn advance(m: Monitor, r: Request) -> Answered
     requires { ⌜ intact (m .plant) m ≡ true ⌝ }
     ensures { λ x. ⌜ (x ≡ stepOf m (callOf r)) × (intact (x .monitor .plant) (x .monitor) ≡ true) ⌝ }
 {
