@@ -12,3 +12,6 @@ pub mod Gather
 pub mod Shared
 pub mod Meaning
 pub mod Maximal
+pub mod Collected
+pub mod Count
+pub mod Rising

@@ -5,3 +5,6 @@ pub mod Fill
 pub mod Overlay
 pub mod Last
 pub mod Gather
+pub mod Collect
+pub mod Count
+pub mod Rising
