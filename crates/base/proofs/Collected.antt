@@ -3,7 +3,7 @@
 --     wrote-none, wrote-more, wrote-ends   the loop's invariant, before it, over a turn and after it
 --     wrote-room       there is room for the turn's part
 -- Assumes nothing.
-use mathlib.Core.Path.{_≡_, refl, sym, ap, subst, _∙_}
+use mathlib.Core.Path.{_≡_, refl, sym, ap, ap₂, subst, _∙_}
 use Prim.Native.Nat.{ℕ, zero, suc, _+_, _-_, _*_, _≤_, _<_}
 use mathlib.Core.List.{List, [], _∷_, _++_, append-assoc, append-nil}
 use native.Mathlib.Nat.{zero-add, add-zero, add-assoc, le-antisymm}
@@ -52,6 +52,11 @@ module _ {A : Type 0} (f : ℕ → List A) where
   pub collect-part : (i n : ℕ) → i < n → length (collect f i) + length (f i) ≤ length (collect f n)
   collect-part i n l = omega (arith, collect-longer (i + 1) n (omega arith), collect-more-length i)
 
+  pub collect-same : (g : ℕ → List A) (n : ℕ) → ((i : ℕ) → i < n → f i ≡ g i) → collect f n ≡ collect g n
+  unfolding collect
+  collect-same g zero h = refl
+  collect-same g (suc n) h = ap₂ _++_ (collect-same g n (λ i l. h i (omega arith))) (h n (omega arith))
+
 -- a writer after a writer
 pub wrote-after : (ws vs out : List ℕ) (at : ℕ) {out′ : List ℕ} {at′ : ℕ} {out″ : List ℕ} {at″ : ℕ} → at + length ws ≤ length out → Wrote ws out at out′ at′ → Wrote vs out′ at′ out″ at″ → Wrote (ws ++ vs) out at out″ at″
 wrote-after ws vs out at {out′} {at′} {out″} {at″} h a b = record {
@@ -85,5 +90,9 @@ module _ (f : ℕ → List ℕ) (out : List ℕ) (at : ℕ) where
   wrote-room i n l h w =
       let p = collect-part f i n l in
       omega (arith, w .place, wrote-length (collect f i) out at (omega arith) w)
+
+  -- the buffer's length stays
+  pub wrote-same : (i n : ℕ) {out′ : List ℕ} {at′ : ℕ} → i ≤ n → at + length (collect f n) ≤ length out → Wrote (collect f i) out at out′ at′ → length out′ ≡ length out
+  wrote-same i n l h w = wrote-length (collect f i) out at (omega (arith, collect-longer f i n l)) w
 
 pub ruleset written = (wrote-none, wrote-more, wrote-ends, wrote-room)

@@ -78,7 +78,7 @@ module _ (m : Monitor) (i : intact (m .plant) m ≡ true) where
       (row-same (m .chosen) (s * 8) (getRow (replicate 8 255)) (λ g. unset) 8 (λ g l. getD-replicate 8 g 255 0 l))))
 
   -- gate
-  held-same : (s o r : ℕ) → s < P .skids → o < P .tanks → heldIn (P .group) (P .rights) (m .running) (m .chosen) s o r ≡ holds P (vs s) o r
+  pub held-same : (s o r : ℕ) → s < P .skids → o < P .tanks → heldIn (P .group) (P .rights) (m .running) (m .chosen) s o r ≡ holds P (vs s) o r
   unfolding holds
   held-same s o r a b = rw (running-is s a, chosen-is s (groupOf P o) a (X .group-in o b))
 

@@ -81,7 +81,8 @@ fn gate_at<'a, 'b>(
     0
 }
 
-fn is_held<'a, 'b>(
+// Whether skid s holds right r on tank o.
+pub fn is_held<'a, 'b>(
     group: &'a [u8; 64],
     rights: &'a [u8; 128],
     running: &'b [u8; 8],

@@ -1,0 +1,34 @@
+-- What the writer of the list puts into the buffer, on the arrays that are lent to it. proofs/Listed has that on a record that passes test 20 this is the listing of the rights held.
+use Prim.Native.Nat.{ℕ, _+_, _/_, _≤_, _<_}
+use mathlib.Core.Path.{_≡_}
+use mathlib.Core.Bool.{true, cond}
+use mathlib.Core.List.{List, [], _∷_}
+use lib.ListN.{length}
+use Rattle.base.specs.Below.{allBelow}
+use Rattle.base.specs.Collect.{collect}
+use Rattle.plant.specs.Checks.{entryBelow}
+use Rattle.calls.specs.Work.{heldIn, taskKnown}
+
+-- what the writer leans on in the arrays
+pub record Known (group running : List ℕ) (skids tanks : ℕ) : Type 0 where
+  pub skids-fit : skids ≤ 8
+  pub tanks-fit : tanks ≤ 64
+  pub groups-there : allBelow (entryBelow group 8) tanks ≡ true
+  pub tasks-known : allBelow (taskKnown running) skids ≡ true
+
+module _ (group rights running chosen : List ℕ) where
+  abbrev pub rightIn : ℕ → ℕ → ℕ → List ℕ
+  rightIn s o r = cond (heldIn group rights running chosen s o r) (s ∷ o ∷ r ∷ []) []
+
+  abbrev pub tankIn : ℕ → ℕ → List ℕ
+  tankIn s o = collect (rightIn s o) 3
+
+  abbrev pub skidIn : ℕ → ℕ → List ℕ
+  skidIn tanks s = collect (tankIn s) tanks
+
+  abbrev pub skidsIn : ℕ → ℕ → List ℕ
+  skidsIn skids tanks = collect (skidIn tanks) skids
+
+  -- the count, a third of the bytes, and the bytes
+  abbrev pub listIn : ℕ → ℕ → List ℕ
+  listIn skids tanks = length (skidsIn skids tanks) / 3 ∷ skidsIn skids tanks

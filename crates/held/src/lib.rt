@@ -1,0 +1,152 @@
+// The writer of the list of rights held: how many there are, and then each as skid, tank, right, rising in that order.
+ghost use mathlib.Core.Path.{_≡_};
+ghost use mathlib.Core.List.{[], _∷_};
+ghost use Prim.Native.Nat.{ℕ, _+_, _<_, _≤_};
+ghost use lib.ListN.{length};
+ghost use Rattle.base.specs.Overlay.{overlay, Wrote};
+ghost use Rattle.held.specs.Work.{Known, rightIn, tankIn, skidIn, skidsIn, listIn};
+use calls::is_held;
+
+// What a list of 192 rights takes, the most that can be held: 8 skids, 8 groups, 3 rights.
+pub const ROOM: usize = 577;
+
+fn put_right(out: &mut [u8], at: usize, skid: u8, tank: u8, right: u8) -> usize
+    requires { ⌜ at + 3 ≤ length (now out) ⌝ }
+    ensures { λ x. ⌜ Wrote (skid ∷ tank ∷ right ∷ []) (now (out .entry)) at (now (out .exit)) x ⌝ }
+{
+    let second = at + 1;
+    let third = at + 2;
+    out[at] = skid;
+    out[second] = tank;
+    out[third] = right;
+    at + 3
+}
+
+// Right r on tank o, if skid s holds it.
+fn write_right<'a, 'b>(
+    group: &'a [u8; 64],
+    rights: &'a [u8; 128],
+    running: &'b [u8; 8],
+    chosen: &'b [u8; 64],
+    skids: u8,
+    tanks: u8,
+    s: u8,
+    o: u8,
+    r: u8,
+    out: &mut [u8],
+    at: usize,
+) -> usize
+    requires { ⌜ Known (now group) (now running) skids tanks ⌝ }
+    requires { ⌜ (s < skids) × ((o < tanks) × (r < 3)) ⌝ }
+    requires { ⌜ at + length (rightIn (now group) (now rights) (now running) (now chosen) s o r) ≤ length (now out) ⌝ }
+    ensures { λ x. ⌜ Wrote (rightIn (now (group .entry)) (now (rights .entry)) (now (running .entry)) (now (chosen .entry)) s o r) (now (out .entry)) at (now (out .exit)) x ⌝ }
+{
+    if is_held(group, rights, running, chosen, s as usize, o, r) {
+        return put_right(out, at, s, o, r);
+    }
+    at
+}
+
+fn write_tank<'a, 'b>(
+    group: &'a [u8; 64],
+    rights: &'a [u8; 128],
+    running: &'b [u8; 8],
+    chosen: &'b [u8; 64],
+    skids: u8,
+    tanks: u8,
+    s: u8,
+    o: u8,
+    out: &mut [u8],
+    at: usize,
+) -> usize
+    requires { ⌜ Known (now group) (now running) skids tanks ⌝ }
+    requires { ⌜ (s < skids) × (o < tanks) ⌝ }
+    requires { ⌜ at + length (tankIn (now group) (now rights) (now running) (now chosen) s o) ≤ length (now out) ⌝ }
+    ensures { λ x. ⌜ Wrote (tankIn (now (group .entry)) (now (rights .entry)) (now (running .entry)) (now (chosen .entry)) s o) (now (out .entry)) at (now (out .exit)) x ⌝ }
+{
+    let mut end = at;
+    let mut r: u8 = 0;
+    while r < 3 {
+        end = write_right(
+            group,
+            rights,
+            running,
+            chosen,
+            skids,
+            tanks,
+            s,
+            o,
+            r,
+            out,
+            end,
+        );
+        r += 1;
+    }
+    end
+}
+
+fn write_skid<'a, 'b>(
+    group: &'a [u8; 64],
+    rights: &'a [u8; 128],
+    running: &'b [u8; 8],
+    chosen: &'b [u8; 64],
+    skids: u8,
+    tanks: u8,
+    s: u8,
+    out: &mut [u8],
+    at: usize,
+) -> usize
+    requires { ⌜ Known (now group) (now running) skids tanks ⌝ }
+    requires { ⌜ s < skids ⌝ }
+    requires { ⌜ at + length (skidIn (now group) (now rights) (now running) (now chosen) tanks s) ≤ length (now out) ⌝ }
+    ensures { λ x. ⌜ Wrote (skidIn (now (group .entry)) (now (rights .entry)) (now (running .entry)) (now (chosen .entry)) tanks s) (now (out .entry)) at (now (out .exit)) x ⌝ }
+{
+    let mut end = at;
+    let mut o: u8 = 0;
+    while o < tanks {
+        end = write_tank(group, rights, running, chosen, skids, tanks, s, o, out, end);
+        o += 1;
+    }
+    end
+}
+
+fn write_skids<'a, 'b>(
+    group: &'a [u8; 64],
+    rights: &'a [u8; 128],
+    running: &'b [u8; 8],
+    chosen: &'b [u8; 64],
+    skids: u8,
+    tanks: u8,
+    out: &mut [u8],
+    at: usize,
+) -> usize
+    requires { ⌜ Known (now group) (now running) skids tanks ⌝ }
+    requires { ⌜ at + length (skidsIn (now group) (now rights) (now running) (now chosen) skids tanks) ≤ length (now out) ⌝ }
+    ensures { λ x. ⌜ Wrote (skidsIn (now (group .entry)) (now (rights .entry)) (now (running .entry)) (now (chosen .entry)) skids tanks) (now (out .entry)) at (now (out .exit)) x ⌝ }
+{
+    let mut end = at;
+    let mut s: u8 = 0;
+    while s < skids {
+        end = write_skid(group, rights, running, chosen, skids, tanks, s, out, end);
+        s += 1;
+    }
+    end
+}
+
+// The list from the buffer's first byte on. The count is known once the rights are written.
+pub fn write_held<'a, 'b>(
+    group: &'a [u8; 64],
+    rights: &'a [u8; 128],
+    running: &'b [u8; 8],
+    chosen: &'b [u8; 64],
+    skids: u8,
+    tanks: u8,
+    out: &mut [u8],
+)
+    requires { ⌜ Known (now group) (now running) skids tanks ⌝ }
+    requires { ⌜ 577 ≤ length (now out) ⌝ }
+    ensures { λ x. ⌜ now (out .exit) ≡ overlay (now (out .entry)) 0 (listIn (now (group .entry)) (now (rights .entry)) (now (running .entry)) (now (chosen .entry)) skids tanks) ⌝ }
+{
+    let end = write_skids(group, rights, running, chosen, skids, tanks, out, 1);
+    out[0] = ((end - 1) / 3) as u8;
+}
