@@ -28,8 +28,7 @@ use denote.Plain.{uint-makes}
 use denote.Builtin.{u8}
 use denote.Ref.{RefT, MutRef, ptr-vals, mut-tells}
 use denote.Signature.{plain}
-use denote.Steps.{only, opens, closes, owned, facts, heard, nothing}
-use denote.Struct.Steps.{spelt}
+use denote.Steps.{only, owned, facts, heard, nothing}
 use denote.Struct.Laws as LL
 use denote.Triple.Statement.{Contract, Triple}
 use denote.Triple.Call.{calls-at}
@@ -55,6 +54,7 @@ use Rattle.requests.proofs.step.Symbol as step-def
 use Rattle.requests.proofs.step.Symbol.{name as #step}
 use Rattle.requests.proofs.step.Met as step-thm
 use Rattle.console.proofs.Values.{val, fits-of, held-of}
+use Rattle.console.proofs.Lent.{opens-record, closes-record}
 use Rattle.console.proofs.permits_call.Key.{name as #call}
 use Rattle.console.proofs.permits_call as lent
 use Rattle.console.proofs.permits_call.Statement as stated
@@ -112,8 +112,7 @@ module _ {M : Type 1} (𝓤 : URA M) (H : Heap 𝓤) (A : Atoms 𝓤) (W : Given
         enter ! C Λ code.function (vptr b o ∷ req-val k ∷ []) _ $
         alloc1 ! (λ l₀. alloc1 ! (λ l₁. alloc1 ! (λ l₂. alloc1 ! (λ l₃. alloc1 ! (λ l₄. alloc0 ! $ params1 ! $
         pass1 ! (init ! 6 refl (tt, tt)) $ pass1 ! (init ! 4 refl (LL.lawful Q.the-type Q′.the-laws 𝓤 H A W .typed k _ is-k .0)) $ pass0 ! $
-        move ! (10 ∷ 11 ∷ 12 ∷ []) $ opens ! tt (T.the-row) {h = h} b o (λ vs. spelt ! (T.the-row) (Is (T.the-row)) (shows 𝓤 H A (T.the-row)) (LL.vals T.the-type T′.the-laws) (LL.tells T.the-type T′.the-laws) fullShare h vs b o $
-        move ! (1 ∷ []) $ facts ! T.the-row (Is T.the-row) (shows 𝓤 H A T.the-row) h (val h ∷ []) (λ g.
+        move ! (10 ∷ 11 ∷ 12 ∷ []) $ opens-record ! tt h b o (λ g.
         -- [the record's cell; the open borrow; obs; auth; _4; …; _3; …; _2; …; _1; …; room for _0; …]
         assigns ! (of-opd ! (load ! (from ! (hop ! (look ! 10 refl) (stop !))) (look-raw ! 0 refl))) (from ! (stop !)) (init ! 4 refl (LL.lawful T.the-type T′.the-laws 𝓤 H A W .typed h _ g .0)) $
         owned ! T.the-row (Is T.the-row) (LL.makes T.the-type T′.the-plain 𝓤 H A) h _ g $ use1 W (raw (Step 𝓤 H A at-mem run .pre to-step)) goes-step $
@@ -125,10 +124,10 @@ module _ {M : Type 1} (𝓤 : URA M) (H : Heap 𝓤) (A : Atoms 𝓤) (W : Given
         rewrite ! 6 (λ (u : Val). ‵ (fat fullShare S′.mir l₃ 0 u)) (ap only (LL.tells S.the-type S′.the-laws r _ is)) refl $
         assigns ! (of-opd ! (load ! (from ! (fld ! refl (stop !))) (look-in ! 6 (sub ! 1 refl (whole !))))) (from ! (hop ! (look ! 10 refl) (stop !))) (store-raw ! 0 refl (LL.lawful T.the-type T′.the-laws 𝓤 H A W .typed (r .monitor) _ (held-of r _ is) .0)) $
         assigns ! (of-opd ! (load ! (from ! (fld ! refl (stop !))) (look-in ! 6 (sub ! 0 refl (whole !))))) (from ! (stop !)) (init ! 12 refl (tt, record { fits = fits-of r _ is })) $
-        owned ! (T.the-row) (Is (T.the-row)) ((LL.makes T.the-type T′.the-plain) 𝓤 H A) (r .monitor) _ (held-of r _ is) $ move ! (1 ∷ 0 ∷ []) $ closes ! tt (T.the-row) (r .monitor) (val (r .monitor) ∷ []) b o $
+        closes-record ! tt (r .monitor) b o (held-of r _ is) $
         returns ! (look ! 11 refl) $ forget ! 3 refl $ forget ! 5 refl $ forget ! 7 refl $ forget ! 9 refl $ forget ! 11 refl $
         move ! (11 ∷ 12 ∷ []) $ free1 ! $ move ! (9 ∷ 10 ∷ []) $ free1 ! $ move ! (7 ∷ 8 ∷ []) $ free1 ! $ move ! (5 ∷ 6 ∷ []) $ free1 ! $ move ! (3 ∷ 4 ∷ []) $ free1 ! $ free0 ! $
-        keep ! (0 ∷ 1 ∷ 2 ∷ []) $ by ! (exits r (fits-of r _ is) e))))))))))))
+        keep ! (0 ∷ 1 ∷ 2 ∷ []) $ by ! (exits r (fits-of r _ is) e)))))))))))
 
 module _ {M : Type 1} (𝓤 : URA M) (H : Heap 𝓤) (A : Atoms 𝓤) (W : Given 𝓤 H A) (at-mem : Memory → SProp 𝓤) (run : Routine → Fun 𝓤) where
   walks : (C : Calls 𝓤 H) (Λ : Loops 𝓤 H) → FmC 𝓤 H (W .laws) C → Triple 𝓤 (C #step) (Step 𝓤 H A at-mem run) → Walks 𝓤 H A lent.ended stayed (WpFn 𝓤 H C Λ code.function) (lent.clauses 𝓤 H A at-mem run)

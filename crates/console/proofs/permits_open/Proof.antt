@@ -30,8 +30,7 @@ use denote.Builtin.{u8}
 use denote.Ref.{RefT, MutRef, ptr-vals, mut-tells}
 use denote.Slice.{sliceVal, ShrSlice, Room, slice-vals, shr-slice-tells, shr-slice-copy}
 use denote.Signature.{plain}
-use denote.Steps.{only, opens, closes, owned, facts, heard, nothing}
-use denote.Struct.Steps.{spelt}
+use denote.Steps.{only, owned, facts, heard, nothing}
 use denote.Struct.Laws as LL
 use denote.Triple.Statement.{Contract, Triple}
 use denote.Triple.Call.{calls-at}
@@ -52,7 +51,8 @@ use Rattle.monitor.proofs.open as open′
 use Rattle.monitor.proofs.open.Symbol as open-def
 use Rattle.monitor.proofs.open.Symbol.{name as #open}
 use Rattle.monitor.proofs.open.Met as open-thm
-use Rattle.console.proofs.Values.{val, fits-of, held-of}
+use Rattle.console.proofs.Values.{fits-of, held-of}
+use Rattle.console.proofs.Lent.{opens-record, closes-record}
 use Rattle.console.proofs.permits_open.Key.{name as #lent-open}
 use Rattle.console.proofs.permits_open as lent
 use Rattle.console.proofs.permits_open.Statement as stated
@@ -125,8 +125,7 @@ module _ {M : Type 1} (𝓤 : URA M) (H : Heap 𝓤) (A : Atoms 𝓤) (W : Given
         pass1 ! (init ! 4 refl (tt, tt)) $ pass1 ! (init ! 2 refl (tt, (tt, (record { fits = room .0 }, tt)))) $ pass0 ! $
         -- the record's borrow is opened, and what it owned is let go
         move ! (9 ∷ []) $ fsplit ! $ fsplit3 ! $ drop ! $ move ! (11 ∷ []) $ split ! $ move ! (2 ∷ 3 ∷ 0 ∷ []) $
-        opens ! tt (T.the-row) {h = h} b o (λ vs. spelt ! (T.the-row) (Is (T.the-row)) (shows 𝓤 H A (T.the-row)) (LL.vals T.the-type T′.the-laws) (LL.tells T.the-type T′.the-laws) fullShare h vs b o $
-        move ! (1 ∷ []) $ drop ! $
+        opens-record ! tt h b o (λ _.
         -- [the record's cell; the open borrow; obs; auth; the file's token; what the file owns; _3; …; _2; …; _1; …; room for _0; …]
         -- a copy of what the file owns is kept; the rest goes to `open`
         move ! (5 ∷ []) $ fsplit ! $ use1 W (‵ OwnFile ⊛ ‵ OwnFile) (shr-slice-copy 𝓤 H A W (named 1) κ₁ u8 .twice file file-at) $ split ! $
@@ -140,7 +139,7 @@ module _ {M : Type 1} (𝓤 : URA M) (H : Heap 𝓤) (A : Atoms 𝓤) (W : Given
         rewrite ! 6 (λ (u : Val). ‵ (fat fullShare S′.mir l₃ 0 u)) (ap only (LL.tells S.the-type S′.the-laws r _ is)) refl $
         assigns ! (of-opd ! (load ! (from ! (fld ! refl (stop !))) (look-in ! 6 (sub ! 1 refl (whole !))))) (from ! (hop ! (look ! 10 refl) (stop !))) (store-raw ! 2 refl (LL.lawful T.the-type T′.the-laws 𝓤 H A W .typed (r .monitor) _ (held-of r _ is) .0)) $
         assigns ! (of-opd ! (load ! (from ! (fld ! refl (stop !))) (look-in ! 6 (sub ! 0 refl (whole !))))) (from ! (stop !)) (init ! 12 refl (tt, record { fits = fits-of r _ is })) $
-        owned ! (T.the-row) (Is (T.the-row)) ((LL.makes T.the-type T′.the-plain) 𝓤 H A) (r .monitor) _ (held-of r _ is) $ move ! (3 ∷ 0 ∷ 4 ∷ 5 ∷ 6 ∷ []) $ closes ! tt (T.the-row) (r .monitor) (val (r .monitor) ∷ []) b o $
+        move ! (2 ∷ 3 ∷ 4 ∷ 5 ∷ []) $ closes-record ! tt (r .monitor) b o (held-of r _ is) $
         returns ! (look ! 11 refl) $ forget ! 5 refl $ forget ! 7 refl $ forget ! 9 refl $ forget ! 11 refl $
         move ! (11 ∷ 12 ∷ []) $ free1 ! $ move ! (9 ∷ 10 ∷ []) $ free1 ! $ move ! (7 ∷ 8 ∷ []) $ free1 ! $ move ! (5 ∷ 6 ∷ []) $ free1 ! $ free0 ! $
         keep ! (0 ∷ 1 ∷ 2 ∷ 3 ∷ 4 ∷ []) $ by ! (exits r (fits-of r _ is) e))))))))))

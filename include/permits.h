@@ -1,0 +1,176 @@
+/* The permit monitor for a panel or a console in C (C11) or C++ (C++11): the batch call, opening, the four calls and the queue.
+ *
+ * A panel links libpanel.a and calls permits_batch. A console links libconsole.a, keeps a record, opens it with a plant file and makes its
+ * calls on it. `rt staticlib panel` and `rt staticlib console` write the archives to target/staticlib/.
+ *
+ * Any bytes can be handed over, as a file, as requests and as a record: every input has its answer, and no function reads or writes
+ * outside what it is given. What C cannot check is the caller's part: a pointer is not null, also where its length is 0; behind it lie as
+ * many bytes or records as its length says; the memory that a function writes overlaps nothing else that it is given; and nobody else uses
+ * that memory during the call.
+ */
+#ifndef PERMITS_H
+#define PERMITS_H
+
+#include <assert.h>
+#include <stddef.h>
+#include <stdint.h>
+
+#ifdef __cplusplus
+extern "C" {
+#endif
+
+/* What the functions return, and what a queue and a batch write for each request. Where several conditions hold, the first in the order
+ * that the function names decides, each over all of the file or all groups before the next. After a refusal the record and the buffers are
+ * as they were given; a refused opening hands back a record of zeros. */
+enum permits_answer {
+    PERMITS_ACCEPTED = 0, /* of a gate: the skid holds the right */
+
+    /* the plant file is refused */
+    PERMITS_LENGTH = 1,               /* under 24 or over 4,096 bytes, or bytes 20 and 21 differ from the length */
+    PERMITS_EDITION = 2,              /* the edition is not 1 */
+    PERMITS_COUNT = 3,                /* a count outside its range */
+    PERMITS_HEADER_ZERO = 4,          /* byte 7, 22 or 23 not zero */
+    PERMITS_SECTION_OUTSIDE = 5,      /* a section begins before 24 or ends past the file */
+    PERMITS_SECTIONS_SHARE = 6,       /* two sections share a byte */
+    PERMITS_LATTICE_LAYOUT = 7,       /* a lattice record breaks its layout */
+    PERMITS_NOT_AN_ORDER = 8,         /* a lattice's levels are not an order */
+    PERMITS_NO_LATTICE = 9,           /* an order but no lattice */
+    PERMITS_OTHER_RECORD = 10,        /* another record: a number, level or bit out of range, or a zero byte that isn't zero */
+    PERMITS_TANKS_AT_ONE_LEVEL = 11,  /* two tanks of one group at one level */
+    PERMITS_REQUIREMENT_UNNAMED = 12, /* a task names a right on a group whose requirement it doesn't name */
+
+    /* a call or a queue on a monitor is refused */
+    PERMITS_RECORD = 20, /* the record's plant breaks 3 or 7 to 12, or a level, running task or chosen tank is out of range */
+
+    /* a call is refused */
+    PERMITS_NO_SKID = 21,        /* no such skid */
+    PERMITS_NO_TASK = 22,        /* no such task */
+    PERMITS_NO_REQUIREMENT = 23, /* no such requirement */
+    PERMITS_NO_LEVEL = 24,       /* no such level; 255 cannot be set */
+    PERMITS_MAY_NOT_RUN = 25,    /* the skid may not run the task */
+    PERMITS_RUNS_ONE = 26,       /* the skid already runs a task, be it the same */
+    PERMITS_LEVEL_UNSET = 27,    /* some group on which the task names a right has its requirement unset for this skid and task */
+    PERMITS_NO_TANK_UNDER = 28,  /* for such a group no tank is at or under its level */
+    PERMITS_NO_TANK = 29,        /* no such tank */
+    PERMITS_NO_RIGHT = 30,       /* right over 2 */
+
+    /* of queues, batches and gates */
+    PERMITS_BUFFER = 31,       /* a queue: fewer answer bytes than requests; a batch of n requests: a buffer under n + 577 bytes */
+    PERMITS_NO_KIND = 32,      /* a request of unknown kind */
+    PERMITS_NOT_HELD = 33,     /* no refusal: the answer of a gate whose right the skid does not hold */
+    PERMITS_REQUEST_BYTES = 34 /* a batch: request bytes not a multiple of 5 */
+};
+
+/* A request's kind. */
+enum permits_kind { PERMITS_SET = 0, PERMITS_START = 1, PERMITS_STOP = 2, PERMITS_GATE = 3 };
+
+/* The rights. */
+enum permits_right { PERMITS_DRAW = 0, PERMITS_RETURN = 1, PERMITS_SAMPLE = 2 };
+
+/* In a monitor: a level that is unset, no running task, no chosen tank. */
+enum { PERMITS_NONE = 255 };
+
+/* Bytes that a batch of n requests needs as its buffer: n answers, the count, and 192 rights of three bytes. */
+#define PERMITS_ROOM(n) ((n) + 577u)
+
+/* The plant of a monitor: six counts, then an entry for each item. Entries past the counts are zero after opening. */
+typedef struct permits_plant {
+    uint8_t lattices;
+    uint8_t requirements;
+    uint8_t groups;
+    uint8_t tanks;
+    uint8_t tasks;
+    uint8_t skids;
+    uint8_t sizes[8];       /* each lattice's number of levels */
+    uint16_t sets[128];     /* set i of lattice l at l * 16 + i */
+    uint8_t lattice[8];     /* each requirement's lattice */
+    uint8_t requirement[8]; /* each group's requirement */
+    uint8_t group[64];      /* each tank's group */
+    uint8_t level[64];      /* each tank's level */
+    uint8_t names[16];      /* the requirements that each task names, a bit each */
+    uint8_t rights[128];    /* the rights of task t on group g at t * 8 + g, a bit each */
+    uint16_t may[8];        /* the tasks that each skid may run, a bit each */
+} permits_plant;
+
+/* A monitor. A console may copy, store and compare it; the calls alone should write it. */
+typedef struct permits_monitor {
+    permits_plant plant;
+    uint8_t levels[1024]; /* the level of skid s, task t and requirement d at (s * 16 + t) * 8 + d, or 255 for unset */
+    uint8_t running[8];   /* each skid's running task, or 255 for none */
+    uint8_t chosen[64];   /* the chosen tank of skid s and group g at s * 8 + g, or 255 */
+} permits_monitor;
+
+/* A request: its kind and four bytes in the order of the call's arguments; those that the call has no use for are ignored. */
+typedef struct permits_request {
+    uint8_t kind;
+    uint8_t a;
+    uint8_t b;
+    uint8_t c;
+    uint8_t d;
+} permits_request;
+
+/* The archives were compiled for these sizes and places. */
+static_assert(sizeof(permits_plant) == 574, "size of a plant");
+static_assert(offsetof(permits_plant, sizes) == 6, "place of sizes");
+static_assert(offsetof(permits_plant, sets) == 14, "place of sets");
+static_assert(offsetof(permits_plant, lattice) == 270, "place of lattice");
+static_assert(offsetof(permits_plant, requirement) == 278, "place of requirement");
+static_assert(offsetof(permits_plant, group) == 286, "place of group");
+static_assert(offsetof(permits_plant, level) == 350, "place of level");
+static_assert(offsetof(permits_plant, names) == 414, "place of names");
+static_assert(offsetof(permits_plant, rights) == 430, "place of rights");
+static_assert(offsetof(permits_plant, may) == 558, "place of may");
+static_assert(sizeof(permits_monitor) == 1670, "size of a monitor");
+static_assert(offsetof(permits_monitor, levels) == 574, "place of levels");
+static_assert(offsetof(permits_monitor, running) == 1598, "place of running");
+static_assert(offsetof(permits_monitor, chosen) == 1606, "place of chosen");
+static_assert(sizeof(permits_request) == 5, "size of a request");
+
+/* Batch, in libpanel.a: opens the plant and makes the requests, five bytes each, beginning at the fresh monitor. Returns 1 to 12, 34, 31
+ * or 0, in this order. With 0 and n requests, out[i] is the answer to request i and out[n] the count of rights held; from out[n + 1] on
+ * stand skid, tank and right of each of them, rising in that order. The rest of out is not written. */
+uint8_t permits_batch(const uint8_t *plant, size_t plant_len, const uint8_t *requests, size_t requests_len, uint8_t *out, size_t out_len);
+
+/* Opening: 0 and the fresh monitor in *m, or 1 to 12 and a record of zeros. What *m held before does not matter. */
+uint8_t permits_open(permits_monitor *m, const uint8_t *file, size_t file_len);
+
+/* One request of any kind on *m: the answer of its call, 20 first; 32 for an unknown kind. */
+uint8_t permits_call(permits_monitor *m, permits_request r);
+
+/* Queue: 20, 31, or 0 after the requests were made in their order, each on the record that the one before left. out[i] is then the answer
+ * to request i; bytes of out beyond the answers are not written. */
+uint8_t permits_queue(permits_monitor *m, const permits_request *requests, size_t count, uint8_t *out, size_t out_len);
+
+/* Set: 20, 21 to 24 or 0. The skid need not be allowed the task. The level alone changes. */
+static inline uint8_t permits_set(permits_monitor *m, uint8_t skid, uint8_t task, uint8_t requirement, uint8_t level)
+{
+    permits_request r = {PERMITS_SET, skid, task, requirement, level};
+    return permits_call(m, r);
+}
+
+/* Start: 20, 21, 22, 25 to 28 or 0. Then the task runs, and each group on which it names a right has its chosen tank. */
+static inline uint8_t permits_start(permits_monitor *m, uint8_t skid, uint8_t task)
+{
+    permits_request r = {PERMITS_START, skid, task, 0, 0};
+    return permits_call(m, r);
+}
+
+/* Stop: 20, 21 or 0. A skid that runs nothing is accepted too. */
+static inline uint8_t permits_stop(permits_monitor *m, uint8_t skid)
+{
+    permits_request r = {PERMITS_STOP, skid, 0, 0, 0};
+    return permits_call(m, r);
+}
+
+/* Gate: 20, 21, 29, 30, or 0 where the skid holds the right on the tank and 33 where it does not. Nothing changes. */
+static inline uint8_t permits_gate(permits_monitor *m, uint8_t skid, uint8_t tank, uint8_t right)
+{
+    permits_request r = {PERMITS_GATE, skid, tank, right, 0};
+    return permits_call(m, r);
+}
+
+#ifdef __cplusplus
+}
+#endif
+
+#endif

@@ -1,0 +1,15 @@
+// The header from C++: the console's functions link and answer. A record of zeros is refused by every call.
+#include "permits.h"
+
+int main()
+{
+    static permits_monitor m;
+    const permits_request stop = {PERMITS_STOP, 0, 0, 0, 0};
+    const uint8_t file[1] = {1};
+    uint8_t answer = PERMITS_ACCEPTED;
+
+    bool ok = permits_open(&m, file, sizeof file) == PERMITS_LENGTH && permits_set(&m, 0, 0, 0, 0) == PERMITS_RECORD &&
+        permits_start(&m, 0, 0) == PERMITS_RECORD && permits_stop(&m, 0) == PERMITS_RECORD && permits_gate(&m, 0, 0, PERMITS_DRAW) == PERMITS_RECORD &&
+        permits_queue(&m, &stop, 1, &answer, 1) == PERMITS_RECORD && answer == PERMITS_ACCEPTED;
+    return ok ? 0 : 1;
+}
