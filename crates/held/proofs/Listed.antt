@@ -18,6 +18,7 @@ use Rattle.rules.specs.Record.{viewOf, intact}
 use Rattle.calls.specs.Work.{heldIn}
 use Rattle.calls.proofs.Ready.{plant-valid, groups-there, tasks-known}
 use Rattle.calls.proofs.Meet.{held-same}
+use Rattle.held.proofs.Bound.{list-short}
 use Rattle.held.specs.Held.{HeldRight, Before, Lists, rightAt, rightsOn, rightsOf, rightsHeld, rightBytes, listing}
 use Rattle.held.specs.Work.{Known, rightIn, tankIn, skidIn, skidsIn, listIn}
 
@@ -159,3 +160,8 @@ module _ (m : Monitor) (i : intact (m .plant) m ≡ true) where
   written-listing =
       ap (λ (l : List ℕ). length l / 3 ∷ l) rights-same
       ∙ ap (λ (n : ℕ). n ∷ rightBytes (rightsHeld P vs)) (let e : length (rightBytes (rightsHeld P vs)) / 3 ≡ length (rightsHeld P vs) = omega (arith, bytes-length (rightsHeld P vs)) in e)
+
+  -- at most 192 rights are held
+  pub held-at-most : length (rightsHeld P vs) ≤ 192
+  held-at-most =
+      omega (arith, list-short (P .group) (P .rights) (m .running) (m .chosen) (P .skids) (P .tanks) known, ap length rights-same, bytes-length (rightsHeld P vs))

@@ -1,0 +1,63 @@
+-- What the panel can rely on, in the order's words: the answers and the rights of a batch are the history's, and nothing else is written.
+use mathlib.Core.Path.{_≡_}
+use mathlib.Core.Logic.{_↔_, _≢_}
+use Prim.Native.Nat.{ℕ, _+_, _*_, _≤_, _<_}
+use mathlib.Core.List.{List, []}
+use lib.ListN.{length, getD}
+use Rattle.plant.specs.declared.Plant.{Plant}
+use Rattle.reader.specs.Admitted.{Admitted, rules}
+use Rattle.base.specs.Chain.{Breaks}
+use Rattle.reader.specs.Reading.{readingOf}
+use Rattle.rules.specs.Rules.{Call, gate}
+use Rattle.rules.specs.Record.{fresh, reply, replies, final, viewOf}
+use Rattle.rules.specs.History.{dues, history, past}
+use Rattle.rules.specs.Rights.{Gives}
+use Rattle.rules.specs.Demand.{Demand3}
+use Rattle.batch.specs.Requests.{callAt}
+use Rattle.held.specs.Held.{HeldRight, Lists, rightsHeld, rightBytes}
+use Rattle.panel.specs.Batch.{requestCount, batchRefusal, batchCalls, batchOut}
+
+-- the number that refuses a batch, in words: opening's rules, whole requests, room
+pub record Admits (plant requests out : List ℕ) : Type 0 where
+  pub plant-admitted : Admitted plant
+  pub whole-requests : length requests ≡ requestCount requests * 5
+  pub room : requestCount requests + 577 ≤ length out
+
+module _ (plant requests out : List ℕ) where
+  abbrev pub P : Plant
+  P = readingOf plant .plant
+
+  abbrev pub calls : List Call
+  calls = batchCalls requests
+
+  abbrev pub held : List HeldRight
+  held = rightsHeld P (past P (history P [] calls))
+
+  -- After an accepted batch.
+  pub record Served : Type 0 where
+    -- demand 3 holds of the list of its requests, request i of them being call i
+    pub demand : Demand3 P calls
+    pub as-many : length calls ≡ requestCount requests
+    -- answer i is that of request i by the history, which the monitor's is
+    pub answers : (i : ℕ) → i < requestCount requests → getD (batchOut plant requests out) i 0 ≡ getD (dues P [] calls) i 0
+    -- the listed rights are exactly those that the history gives, each once, rising; these are those for which a gate call would return 0
+    pub rights : Lists (Gives P (history P [] calls)) held
+    pub gates : Lists (λ s o r. reply P (final (fresh P) calls) (gate s o r) ≡ 0) held
+    -- their count, at most 192, and the bytes of each stand behind the answers
+    pub at-most : length held ≤ 192
+    pub count : getD (batchOut plant requests out) (requestCount requests) 0 ≡ length held
+    pub triples : (i : ℕ) → i < length held * 3 → getD (batchOut plant requests out) (requestCount requests + (1 + i)) 0 ≡ getD (rightBytes held) i 0
+    -- every other byte is as it was
+    pub as-long : length (batchOut plant requests out) ≡ length out
+    pub rest : (i : ℕ) → requestCount requests + (1 + length held * 3) ≤ i → getD (batchOut plant requests out) i 0 ≡ getD out i 0
+
+  -- For every plant, requests and buffer.
+  pub record Batch : Type 0 where
+    -- refused with nothing written, or served
+    pub accepts : (batchRefusal plant requests (length out) ≡ 0) ↔ Admits plant requests out
+    pub served : batchRefusal plant requests (length out) ≡ 0 → Served
+    pub unwritten : batchRefusal plant requests (length out) ≢ 0 → batchOut plant requests out ≡ out
+    -- a bad plant decides first, then a cut request, then the buffer
+    pub plant-first : (k : ℕ) → 1 ≤ k → Breaks (rules plant) k → batchRefusal plant requests (length out) ≡ k
+    pub then-34 : Admitted plant → length requests ≢ requestCount requests * 5 → batchRefusal plant requests (length out) ≡ 34
+    pub then-31 : Admitted plant → length requests ≡ requestCount requests * 5 → length out < requestCount requests + 577 → batchRefusal plant requests (length out) ≡ 31
