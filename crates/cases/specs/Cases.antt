@@ -1,5 +1,6 @@
--- The worked cases of the paper, P1 to P10, and three by its rules, each with its answer, as one list.
-use Prim.Native.Nat.{ℕ, zero, suc, _-_}
+-- The worked cases of the paper, P1 to P10, and three by its rules, each with its answer, as one list. The session's two go through the calls and
+-- through the batch.
+use Prim.Native.Nat.{ℕ, zero, suc, _+_, _-_}
 use mathlib.Core.Bool.{Bool, true, false, cond, _&&_}
 use mathlib.Core.List.{List, [], _∷_, _++_}
 use lib.Dec.{eqb}
@@ -11,9 +12,11 @@ use Rattle.plant.specs.declared.Plant.{Plant}
 use Rattle.reader.specs.Reading.{readingOf}
 use Rattle.choice.specs.Choice.{choice}
 use Rattle.rules.specs.declared.Monitor.{Monitor}
-use Rattle.rules.specs.Rules.{Call, set, start, stop, gate, holds}
+use Rattle.rules.specs.Rules.{Call, set, start, stop, gate}
 use Rattle.rules.specs.Record.{viewOf, replies, final}
 use Rattle.monitor.specs.Calls.{openedOf}
+use Rattle.held.specs.Held.{rightsHeld, rightBytes}
+use Rattle.panel.specs.Batch.{requestCount, batchRefusal, batchOut}
 
 pub data Case : Type 0 where
   -- a lattice record with these sets, one for each level, and the number that refuses it, or 0
@@ -24,6 +27,8 @@ pub data Case : Type 0 where
   answers : List ℕ → List Call → List ℕ → Case
   -- the same, and every right held at the end: skid, tank, right, rising in that order
   held : List ℕ → List Call → List ℕ → Case
+  -- a plant file, request bytes and the bytes that the batch writes
+  batch : List ℕ → List ℕ → List ℕ → Case
   -- the tank chosen from group 0 of a plant for a level
   chosen : Plant → ℕ → ℕ → Case
 
@@ -82,19 +87,24 @@ threeTanks = record {
   may = 1 ∷ [];
 }
 
--- every right that a record holds, as skid, tank, right, one after the other: the numbers from 0 up, walked down so that they come out rising
-module _ (P : Plant) (m : Monitor) where
-  unfoldable pub rightsOn : ℕ → ℕ → ℕ → List ℕ → List ℕ
-  rightsOn s o zero l = l
-  rightsOn s o (suc r) l = rightsOn s o r (cond (holds P (viewOf P m s) o r) (s ∷ o ∷ r ∷ l) l)
+-- the session's requests as a batch has them, five bytes each
+unfoldable pub requestBytes : List ℕ
+requestBytes =
+    1 ∷ 0 ∷ 0 ∷ 0 ∷ 0
+    ∷ 0 ∷ 0 ∷ 0 ∷ 0 ∷ 1
+    ∷ 0 ∷ 0 ∷ 0 ∷ 1 ∷ 3
+    ∷ 1 ∷ 0 ∷ 0 ∷ 0 ∷ 0
+    ∷ 3 ∷ 0 ∷ 0 ∷ 0 ∷ 0
+    ∷ 0 ∷ 0 ∷ 0 ∷ 0 ∷ 2
+    ∷ 3 ∷ 0 ∷ 1 ∷ 0 ∷ 0
+    ∷ 1 ∷ 0 ∷ 1 ∷ 0 ∷ 0
+    ∷ 2 ∷ 1 ∷ 0 ∷ 0 ∷ 0
+    ∷ 1 ∷ 1 ∷ 0 ∷ 0 ∷ 0
+    ∷ []
 
-  unfoldable pub rightsOf : ℕ → ℕ → List ℕ → List ℕ
-  rightsOf s zero l = l
-  rightsOf s (suc o) l = rightsOf s o (rightsOn s o 3 l)
-
-  unfoldable pub rightsHeld : ℕ → List ℕ → List ℕ
-  rightsHeld zero l = l
-  rightsHeld (suc s) l = rightsHeld s (rightsOf s (P .tanks) l)
+-- a buffer of just the room that so many requests ask for, every byte 170
+abbrev pub buffer : List ℕ → List ℕ
+buffer requests = replicate (requestCount requests + 577) 170
 
 unfoldable pub sameList : List ℕ → List ℕ → Bool
 sameList [] [] = true
@@ -109,7 +119,10 @@ unfoldable pub right : Case → Bool
 right (lattice sets number) = eqb (levels.refusal (latticeOf sets)) number
 right (opening file number) = eqb (openedOf file .answer) number
 right (answers file calls numbers) = sameList (replies (opened file) calls) numbers
-right (held file calls triples) = sameList (rightsHeld (readingOf file .plant) (final (opened file) calls) (readingOf file .plant .skids) []) triples
+right (held file calls triples) = sameList (rightBytes (rightsHeld (readingOf file .plant) (viewOf (readingOf file .plant) (final (opened file) calls)))) triples
+right (batch file requests bytes) =
+    eqb (batchRefusal file requests (length (buffer requests))) 0
+    && sameList (batchOut file requests (buffer requests)) (bytes ++ replicate (length (buffer requests) - length bytes) 170)
 right (chosen P v o) = eqb (choice P 0 (λ d. v)) o
 
 unfoldable pub cases : List Case
@@ -118,6 +131,8 @@ cases =
     opening session 0
     ∷ answers session requests (27 ∷ 0 ∷ 0 ∷ 0 ∷ 0 ∷ 0 ∷ 33 ∷ 26 ∷ 0 ∷ 25 ∷ [])
     ∷ held session requests (0 ∷ 0 ∷ 0 ∷ 0 ∷ 2 ∷ 0 ∷ 0 ∷ 2 ∷ 2 ∷ [])
+    -- the same two by the batch: the answers, the count, and the rights
+    ∷ batch session requestBytes (27 ∷ 0 ∷ 0 ∷ 0 ∷ 0 ∷ 0 ∷ 33 ∷ 26 ∷ 0 ∷ 25 ∷ 3 ∷ 0 ∷ 0 ∷ 0 ∷ 0 ∷ 2 ∷ 0 ∷ 0 ∷ 2 ∷ 2 ∷ [])
     -- P3 to P8
     ∷ lattice (1 ∷ []) 0
     ∷ lattice (0 ∷ []) 8
