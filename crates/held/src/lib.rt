@@ -1,14 +1,11 @@
 // The writer of the list of rights held: how many there are, and then each as skid, tank, right, rising in that order.
 ghost use mathlib.Core.Path.{_≡_};
 ghost use mathlib.Core.List.{[], _∷_};
-ghost use Prim.Native.Nat.{ℕ, _+_, _<_, _≤_};
+ghost use Prim.Native.Nat.{ℕ, _+_, _/_, _<_, _≤_};
 ghost use lib.ListN.{length};
 ghost use Rattle.base.specs.Overlay.{overlay, Wrote};
 ghost use Rattle.held.specs.Work.{Known, rightIn, tankIn, skidIn, skidsIn, listIn};
 use calls::is_held;
-
-// What a list of 192 rights takes, the most that can be held: 8 skids, 8 groups, 3 rights.
-pub const ROOM: usize = 577;
 
 fn put_right(out: &mut [u8], at: usize, skid: u8, tank: u8, right: u8) -> usize
     requires { ⌜ at + 3 ≤ length (now out) ⌝ }
@@ -133,6 +130,14 @@ fn write_skids<'a, 'b>(
     end
 }
 
+// How many rights so many bytes are, three each.
+fn rights_in(bytes: usize) -> u8
+    requires { ⌜ bytes ≤ 576 ⌝ }
+    ensures { λ r. ⌜ r ≡ bytes / 3 ⌝ }
+{
+    (bytes / 3) as u8
+}
+
 // The list from the buffer's first byte on. The count is known once the rights are written.
 pub fn write_held<'a, 'b>(
     group: &'a [u8; 64],
@@ -148,5 +153,5 @@ pub fn write_held<'a, 'b>(
     ensures { λ x. ⌜ now (out .exit) ≡ overlay (now (out .entry)) 0 (listIn (now (group .entry)) (now (rights .entry)) (now (running .entry)) (now (chosen .entry)) skids tanks) ⌝ }
 {
     let end = write_skids(group, rights, running, chosen, skids, tanks, out, 1);
-    out[0] = ((end - 1) / 3) as u8;
+    out[0] = rights_in(end - 1);
 }
