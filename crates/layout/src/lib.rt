@@ -62,7 +62,7 @@ pub fn count_of(file: &[u8], kind: usize) -> usize
     wide(file[1 + kind])
 }
 
-fn offset_of(file: &[u8], kind: usize) -> usize
+pub fn offset_of(file: &[u8], kind: usize) -> usize
     requires { ⌜ (24 ≤ length (now file)) × (kind < 6) ⌝ }
     ensures { λ r. ⌜ (r ≡ offset (now (file .entry)) kind) × (r < 65536) ⌝ }
 {

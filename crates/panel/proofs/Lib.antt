@@ -1,3 +1,4 @@
 pub mod Outcome
 pub mod Refused
 pub mod Batch
+pub mod Section
