@@ -1,0 +1,6 @@
+pub mod Decimal
+pub mod Number
+pub mod Lines
+pub mod Outcome
+pub mod Bounds
+pub mod Session
