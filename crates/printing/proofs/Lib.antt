@@ -3,4 +3,6 @@ pub mod Number
 pub mod Lines
 pub mod Outcome
 pub mod Bounds
-pub mod Session
+pub mod Texts
+pub mod Batched
+pub mod Printed

@@ -1,4 +1,7 @@
 // Text written into a lent buffer: each function puts its text at a place and returns the place behind it.
+mod session;
+
+pub use session::print_session;
 ghost use mathlib.Core.List.{[], _∷_, _++_};
 ghost use Prim.Native.Nat.{_+_, _*_, _<_, _≤_};
 ghost use lib.ListN.{length};
@@ -129,10 +132,10 @@ fn put_held(text: &mut [u8], at: usize, held: &[u8]) -> usize
     put_rights(text, next, &held[1..], count as usize)
 }
 
-// A count is one byte, so its rights take at most 3 * 255 bytes: that much of `results` can be read whatever the batch answered.
+// A count is one byte, so whatever the batch answered, its rights take at most 3 * 255 bytes of `results` and 12 * 255 of `text`. A request's
+// number has at most five digits, so an answer takes at most ten.
 pub fn print_outcome(number: u8, results: &[u8], n: usize, text: &mut [u8]) -> usize
-    requires { ⌜ n + 766 ≤ length (now results) ⌝ }
-    requires { ⌜ length (outcomeLines number n (now results)) ≤ length (now text) ⌝ }
+    requires { ⌜ (n < 100000) × ((n + 766 ≤ length (now results)) × (n * 10 + 3069 ≤ length (now text))) ⌝ }
     ensures { λ r. ⌜ Wrote (outcomeLines number n (now (results .entry))) (now (text .entry)) 0 (now (text .exit)) r ⌝ }
 {
     if number != 0 {

@@ -1,4 +1,4 @@
--- The text of the paper's session: its ten answers and its three rights make the fourteen lines that the paper prints. Assumes nothing.
+-- Worked texts: the paper's session, whose ten answers and three rights make its fourteen lines; no requests; refusals. Assumes nothing.
 use mathlib.Core.Path.{_≡_, refl}
 use mathlib.Core.List.{[], _∷_}
 use Rattle.base.specs.Collect.{collect}
