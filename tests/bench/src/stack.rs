@@ -1,0 +1,1 @@
+//! How much stack a call needs: it runs in a thread whose stack was painted.
