@@ -48,6 +48,24 @@ impl Tables {
     }
 }
 
+/// The counts that a request is held against, apart from the record, so that
+/// they are not read again behind each change of it.
+#[derive(Clone, Copy)]
+struct Counts {
+    skids: u8,
+    tanks: u8,
+    tasks: u8,
+    requirements: u8,
+}
+
+impl Counts {
+    #[inline(always)]
+    fn of(plant: &Plant) -> Counts {
+        let Plant { skids, tanks, tasks, requirements, .. } = *plant;
+        Counts { skids, tanks, tasks, requirements }
+    }
+}
+
 /// A byte 1 in each of eight places.
 const ONES: u64 = 0x0101_0101_0101_0101;
 const HIGH_BITS: u64 = 0x80 * ONES;

@@ -6,7 +6,7 @@ use permit_monitor::monitor::NONE;
 use permit_monitor::{queue, Record};
 
 use crate::inputs::{
-    list, maximum_plant, paper_plant, wild_list, Mix, GATE, MIXED, SET, START, START_STOP,
+    list, maximum_plant, paper_plant, wild_list, GATE, MIXED, SET, START, START_STOP,
 };
 use crate::{baseline, rattle};
 
@@ -164,10 +164,4 @@ fn console_case(
             restore(&mut other);
         }),
     }
-}
-
-/// How the requests of a list divide, for the reader of the table.
-pub fn described(mix: &Mix) -> String {
-    let gates = 100 - mix.sets - mix.starts - mix.stops;
-    format!("{} % set, {} % start, {} % stop, {gates} % gate", mix.sets, mix.starts, mix.stops)
 }

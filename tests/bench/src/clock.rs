@@ -2,18 +2,35 @@
 
 use std::time::{Duration, Instant};
 
-/// Nanoseconds for one call of each.
+/// A number for each side: nanoseconds or instructions.
 #[derive(Clone, Copy)]
 pub struct Pair {
     pub rattle: f64,
     pub baseline: f64,
 }
 
-/// How long one sample runs.
-const SAMPLE: Duration = Duration::from_micros(1500);
+impl Pair {
+    /// A row of a table.
+    pub fn print(&self, name: &str) {
+        let ratio = self.rattle / self.baseline;
+        println!("{name:46} {:9.1} {:9.1} {ratio:6.2}", self.rattle, self.baseline);
+    }
 
-/// Samples of each; the median leaves out those that another process disturbed.
-const SAMPLES: usize = 101;
+    /// What one of `requests` takes, where `empty` is the cost of none.
+    pub fn each(&self, empty: Pair, requests: usize) -> Pair {
+        Pair {
+            rattle: (self.rattle - empty.rattle) / requests as f64,
+            baseline: (self.baseline - empty.baseline) / requests as f64,
+        }
+    }
+}
+
+/// How long one sample runs at least: less than a turn of another process on the
+/// machine, so that most samples are undisturbed.
+const SAMPLE: Duration = Duration::from_micros(200);
+
+/// Samples of each; the median leaves the disturbed ones out.
+const SAMPLES: usize = 501;
 
 /// The medians. Samples of the two alternate, so that a slow moment of the
 /// machine falls on both.

@@ -3,7 +3,7 @@
 use permit_monitor::{Plant, Record};
 
 use super::intact::is_intact;
-use super::{first_byte, nonzero, rights_of, Tables, NONE};
+use super::{first_byte, nonzero, rights_of, Counts, Tables, NONE};
 
 /// One request on a record: 20 first.
 #[inline(never)]
@@ -15,7 +15,7 @@ pub fn call(record: &mut Record, request: [u8; 5]) -> u8 {
     }
     let [kind, a, b, c, d] = request;
     match kind {
-        0 => set(record, &tables.sizes, a, b, c, d),
+        0 => set(&mut record.levels, Counts::of(&record.plant), &tables.sizes, a, b, c, d),
         1 => start(record, a, b, |plant, group, level| choice(plant, &tables, group, level)),
         2 => stop(record, a),
         3 => gate(record, a, b, c),
@@ -31,32 +31,36 @@ fn levels_at(skid: u8, task: u8) -> usize {
 
 #[inline(always)]
 pub fn set(
-    record: &mut Record,
+    levels: &mut [u8; 1024],
+    counts: Counts,
     sizes: &[u8; 8],
     skid: u8,
     task: u8,
     requirement: u8,
     level: u8,
 ) -> u8 {
-    let plant = &record.plant;
-    if (skid >= plant.skids) | (task >= plant.tasks) | (requirement >= plant.requirements) {
-        return if skid >= plant.skids {
-            21
-        } else if task >= plant.tasks {
-            22
-        } else {
-            23
-        };
+    if (skid >= counts.skids) | (task >= counts.tasks) | (requirement >= counts.requirements) {
+        return set_refusal(counts, skid, task);
     }
     // The counts are at most 8, 16 and 8.
     unsafe {
         if level >= *sizes.get_unchecked(usize::from(requirement)) {
             return 24;
         }
-        let at = levels_at(skid, task) + usize::from(requirement);
-        *record.levels.get_unchecked_mut(at) = level;
+        *levels.get_unchecked_mut(levels_at(skid, task) + usize::from(requirement)) = level;
     }
     0
+}
+
+#[inline(always)]
+fn set_refusal(counts: Counts, skid: u8, task: u8) -> u8 {
+    if skid >= counts.skids {
+        21
+    } else if task >= counts.tasks {
+        22
+    } else {
+        23
+    }
 }
 
 /// `choose` gives the tank for a group and a level, or none.
@@ -135,7 +139,7 @@ pub fn stop(record: &mut Record, skid: u8) -> u8 {
 fn gate(record: &Record, skid: u8, tank: u8, right: u8) -> u8 {
     let plant = &record.plant;
     if (skid >= plant.skids) | (tank >= plant.tanks) | (right > 2) {
-        return gate_refusal(plant, skid, tank);
+        return gate_refusal(Counts::of(plant), skid, tank);
     }
     let s = usize::from(skid) & 7;
     let task = record.running[s];
@@ -153,10 +157,10 @@ fn gate(record: &Record, skid: u8, tank: u8, right: u8) -> u8 {
 
 /// The number of a gate that is refused.
 #[inline(always)]
-pub fn gate_refusal(plant: &Plant, skid: u8, tank: u8) -> u8 {
-    if skid >= plant.skids {
+pub fn gate_refusal(counts: Counts, skid: u8, tank: u8) -> u8 {
+    if skid >= counts.skids {
         21
-    } else if tank >= plant.tanks {
+    } else if tank >= counts.tanks {
         29
     } else {
         30

@@ -5,7 +5,7 @@ use permit_monitor::{Plant, Record};
 use super::calls::{choice, gate_refusal, set, start, stop};
 use super::intact::is_intact;
 use super::opening::{clear_parts, open_plant};
-use super::{first_byte, nonzero, rights_of, Tables, NONE};
+use super::{first_byte, nonzero, rights_of, Counts, Tables, NONE};
 
 /// A choice that was not needed yet. No tank has this number.
 const UNKNOWN: u8 = 254;
@@ -72,20 +72,28 @@ impl List<'_> {
         List { record, tables, choices: [UNKNOWN; 128], held: [0; 512] }
     }
 
-    #[inline(always)]
+    /// Sets and gates are most of a list. Starts and stops stay functions of
+    /// their own, so that the loop has the registers for itself.
+    #[inline(never)]
     fn serve(&mut self, requests: &[[u8; 5]], out: &mut [u8]) {
+        let counts = Counts::of(&self.record.plant);
         for (answer, &[kind, a, b, c, d]) in out.iter_mut().zip(requests) {
             *answer = match kind {
-                0 => set(self.record, &self.tables.sizes, a, b, c, d),
+                3 => self.gate(counts, a, b, c),
+                0 => self.set(counts, a, b, c, d),
                 1 => self.start(a, b),
                 2 => self.stop(a),
-                3 => self.gate(a, b, c),
                 _ => 32,
             };
         }
     }
 
     #[inline(always)]
+    fn set(&mut self, counts: Counts, skid: u8, task: u8, requirement: u8, level: u8) -> u8 {
+        set(&mut self.record.levels, counts, &self.tables.sizes, skid, task, requirement, level)
+    }
+
+    #[inline(never)]
     fn start(&mut self, skid: u8, task: u8) -> u8 {
         let List { record, tables, choices, .. } = self;
         let number = start(record, skid, task, |plant, group, level| {
@@ -114,7 +122,7 @@ impl List<'_> {
         }
     }
 
-    #[inline(always)]
+    #[inline(never)]
     fn stop(&mut self, skid: u8) -> u8 {
         let number = stop(self.record, skid);
         if number == 0 {
@@ -125,10 +133,9 @@ impl List<'_> {
     }
 
     #[inline(always)]
-    fn gate(&self, skid: u8, tank: u8, right: u8) -> u8 {
-        let plant = &self.record.plant;
-        if (skid >= plant.skids) | (tank >= plant.tanks) | (right > 2) {
-            return gate_refusal(plant, skid, tank);
+    fn gate(&self, counts: Counts, skid: u8, tank: u8, right: u8) -> u8 {
+        if (skid >= counts.skids) | (tank >= counts.tanks) | (right > 2) {
+            return gate_refusal(counts, skid, tank);
         }
         // The counts are at most 8 and 64.
         let rights =

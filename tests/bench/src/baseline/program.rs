@@ -1,12 +1,14 @@
 //! What the program permits prints for what it reads.
 
+use std::mem::MaybeUninit;
+
 use super::lists::batch;
 
 pub const LONGEST_INPUT: usize = 65_536;
 
-/// The most requests behind the shortest plant file, a line of at most eight
-/// bytes for each; the line of the count; and 192 lines of rights.
-pub const LONGEST_OUTPUT: usize = 13_103 * 9 + 9 + 192 * 7;
+/// A line of at most nine bytes for each request of the longest list; the line
+/// of the count; and 192 lines of rights.
+pub const LONGEST_OUTPUT: usize = LONGEST_INPUT / 5 * 9 + 9 + 192 * 7;
 
 /// Answers of the longest list and the rights held.
 const ROOM: usize = LONGEST_INPUT / 5 + 577;
@@ -82,9 +84,11 @@ fn print(input: &[u8], lines: &mut Lines) {
     }
     let (plant, requests) = input.split_at(length);
     let n = requests.len() / 5;
-    let mut answers = [0; ROOM];
-    match batch(plant, requests, &mut answers[..n + 577]) {
-        0 => print_session(&answers, n, lines),
+    // The batch writes what is read of them before it is read.
+    let mut answers = MaybeUninit::<[u8; ROOM]>::uninit();
+    let answers = unsafe { std::slice::from_raw_parts_mut(answers.as_mut_ptr().cast(), n + 577) };
+    match batch(plant, requests, answers) {
+        0 => print_session(answers, n, lines),
         34 => lines.text(b"requests 34\n"),
         number => {
             lines.text(b"plant ");
@@ -93,7 +97,7 @@ fn print(input: &[u8], lines: &mut Lines) {
     }
 }
 
-fn print_session(answers: &[u8; ROOM], n: usize, lines: &mut Lines) {
+fn print_session(answers: &[u8], n: usize, lines: &mut Lines) {
     let mut counter = Counter::zero();
     for &answer in &answers[..n] {
         lines.text(counter.next());
