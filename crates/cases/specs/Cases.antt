@@ -1,6 +1,7 @@
--- The worked cases of the paper, P1 to P10, and three by its rules, each with its answer, as one list. The session's two go through the calls and
--- through the batch.
+-- The worked cases of the paper, P1 to P10, and three by its rules, each with its answer, as one list. The session's two go through the calls,
+-- through the batch and through what the program prints.
 use Prim.Native.Nat.{ℕ, zero, suc, _+_, _-_}
+use Prim.Native.String.{String}
 use mathlib.Core.Bool.{Bool, true, false, cond, _&&_}
 use mathlib.Core.List.{List, [], _∷_, _++_}
 use lib.Dec.{eqb}
@@ -17,6 +18,8 @@ use Rattle.rules.specs.Record.{viewOf, replies, final}
 use Rattle.monitor.specs.Calls.{openedOf}
 use Rattle.held.specs.Held.{rightsHeld, rightBytes}
 use Rattle.panel.specs.Batch.{requestCount, batchRefusal, batchOut}
+use Rattle.printing.specs.Text.{codes}
+use Rattle.printing.specs.Printed.{printed}
 
 pub data Case : Type 0 where
   -- a lattice record with these sets, one for each level, and the number that refuses it, or 0
@@ -29,6 +32,8 @@ pub data Case : Type 0 where
   held : List ℕ → List Call → List ℕ → Case
   -- a plant file, request bytes and the bytes that the batch writes
   batch : List ℕ → List ℕ → List ℕ → Case
+  -- the program's input, and the text that it prints
+  prints : List ℕ → String → Case
   -- the tank chosen from group 0 of a plant for a level
   chosen : Plant → ℕ → ℕ → Case
 
@@ -123,6 +128,7 @@ right (held file calls triples) = sameList (rightBytes (rightsHeld (readingOf fi
 right (batch file requests bytes) =
     eqb (batchRefusal file requests (length (buffer requests))) 0
     && sameList (batchOut file requests (buffer requests)) (bytes ++ replicate (length (buffer requests) - length bytes) 170)
+right (prints input text) = sameList (printed input) (codes text)
 right (chosen P v o) = eqb (choice P 0 (λ d. v)) o
 
 unfoldable pub cases : List Case
@@ -133,6 +139,8 @@ cases =
     ∷ held session requests (0 ∷ 0 ∷ 0 ∷ 0 ∷ 2 ∷ 0 ∷ 0 ∷ 2 ∷ 2 ∷ [])
     -- the same two by the batch: the answers, the count, and the rights
     ∷ batch session requestBytes (27 ∷ 0 ∷ 0 ∷ 0 ∷ 0 ∷ 0 ∷ 33 ∷ 26 ∷ 0 ∷ 25 ∷ 3 ∷ 0 ∷ 0 ∷ 0 ∷ 0 ∷ 2 ∷ 0 ∷ 0 ∷ 2 ∷ 2 ∷ [])
+    -- and as the program prints them
+    ∷ prints (session ++ requestBytes) "1 27\n2 0\n3 0\n4 0\n5 0\n6 0\n7 33\n8 26\n9 0\n10 25\nheld 3\n0 0 0\n0 2 0\n0 2 2\n"
     -- P3 to P8
     ∷ lattice (1 ∷ []) 0
     ∷ lattice (0 ∷ []) 8
