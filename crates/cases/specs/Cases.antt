@@ -1,4 +1,4 @@
--- The worked cases of the paper, P1 to P10, and three by its rules, each with its answer, as one list. The session's two go through the calls,
+-- The worked cases of the paper, P1 to P10, and more by its rules, each with its answer, as one list. The session's two go through the calls,
 -- through the batch and through what the program prints.
 use Prim.Native.Nat.{ℕ, zero, suc, _+_, _-_}
 use Prim.Native.String.{String}
@@ -71,6 +71,26 @@ crossedCalls = set 0 0 0 3 ∷ set 0 0 1 3 ∷ set 0 0 0 1 ∷ set 0 0 1 2 ∷ s
 
 unfoldable pub requests : List Call
 requests = start 0 0 ∷ set 0 0 0 1 ∷ set 0 0 1 3 ∷ start 0 0 ∷ gate 0 0 0 ∷ set 0 0 0 2 ∷ gate 0 1 0 ∷ start 0 1 ∷ stop 1 ∷ start 1 0 ∷ []
+
+-- The same plant with its tanks renumbered, group 1's first: a skid's rights in the order of its groups, or by right before tank, would stand
+-- in another order than by tank.
+unfoldable pub renumbered : List ℕ
+renumbered = ListN.set (ListN.set (ListN.set (ListN.set (ListN.set (ListN.set (ListN.set (ListN.set session 100 1) 101 1) 102 1) 103 2) 104 0) 105 0) 106 0) 107 2
+
+-- Both skids run, between them a request of no known kind: skid 0 task 0 on group 1 and group 0, skid 1 task 1, which returns to group 0.
+unfoldable pub bothSkids : List ℕ
+bothSkids =
+    0 ∷ 1 ∷ 1 ∷ 0 ∷ 2
+    ∷ 1 ∷ 1 ∷ 1 ∷ 0 ∷ 0
+    ∷ 9 ∷ 0 ∷ 0 ∷ 0 ∷ 0
+    ∷ 0 ∷ 0 ∷ 0 ∷ 0 ∷ 1
+    ∷ 0 ∷ 0 ∷ 0 ∷ 1 ∷ 3
+    ∷ 1 ∷ 0 ∷ 0 ∷ 0 ∷ 0
+    ∷ []
+
+-- The same plant with tank 0 at level 1, so that group 0 can lack a tank while group 1's level is unset.
+unfoldable pub raised : List ℕ
+raised = ListN.set session 101 1
 
 -- the session's lattice 0 with three tanks at levels 0, 1 and 2 of one group
 unfoldable pub threeTanks : Plant
@@ -154,6 +174,13 @@ cases =
     ∷ chosen threeTanks 1 1
     -- in lattice 1 level 1 is not at or under level 2, though its number is lower: under 2 the tank at 2 is chosen, and not the one at 1
     ∷ answers session (set 0 0 0 0 ∷ set 0 0 1 2 ∷ start 0 0 ∷ gate 0 3 0 ∷ gate 0 2 0 ∷ []) (0 ∷ 0 ∷ 0 ∷ 0 ∷ 33 ∷ [])
+    -- 27 of group 1 decides before 28 of group 0
+    ∷ answers raised (set 0 0 0 0 ∷ start 0 0 ∷ set 0 0 1 3 ∷ start 0 0 ∷ []) (0 ∷ 27 ∷ 0 ∷ 28 ∷ [])
+    -- the order of the list of rights, over two skids; tank 0 is of group 1 and tank 2 of group 0
+    ∷ batch renumbered bothSkids (0 ∷ 0 ∷ 32 ∷ 0 ∷ 0 ∷ 0 ∷ 4 ∷ 0 ∷ 0 ∷ 0 ∷ 0 ∷ 0 ∷ 2 ∷ 0 ∷ 2 ∷ 0 ∷ 1 ∷ 3 ∷ 1 ∷ [])
+    -- the longest input that is taken, and one byte more
+    ∷ prints (replicate 65536 0) "plant 1\n"
+    ∷ prints (replicate 65537 0) "long\n"
     -- requirement 0 in lattice 1 and requirement 1 in lattice 0: level 3 is one of the first and none of the second; under 1 of the first
     -- tank 1 at level 2 is not at or under, and under 2 of the second tank 3 at level 2 is
     ∷ opening crossed 0
