@@ -35,6 +35,9 @@ const KINDS: [usize; 18] = [
     usize::MAX,
 ];
 
+/// What a record holds before it is opened.
+const NO_MEANING: [u8; RECORD] = [165; RECORD];
+
 /// Batch: the number and the whole buffer.
 pub fn batch(input: &Input, counts: &mut Counts) -> Result<(), Difference> {
     let mut expected = input.buffer_bytes();
@@ -59,10 +62,14 @@ pub fn section(input: &Input, _: &mut Counts) -> Result<(), Difference> {
     Ok(())
 }
 
-/// Opening, into the record given: the number and the whole record.
+/// Opening, into the record given or one of no meaning: the number and the whole
+/// record.
 pub fn opening(input: &Input, counts: &mut Counts) -> Result<(), Difference> {
     let (number, record) = permit_monitor::open(&input.plant);
-    let mut lent = Lent::holding(&input.record);
+    let mut lent = match input.record.is_empty() {
+        true => Lent::holding(&NO_MEANING),
+        false => Lent::holding(&input.record),
+    };
     let got = lent.open(&input.plant)?;
     counts.add(OPEN, got);
     same_number("number of the opening", number, got)?;
@@ -113,7 +120,7 @@ pub fn history(input: &Input, _: &mut Counts) -> Result<(), Difference> {
     same_bytes(|at| format!("answer {} of the batch", at + 1), &answers, &got.0)?;
     same(|| "rights of the batch".to_string(), &rights, &got.1)?;
 
-    let mut lent = Lent::holding(&[0; RECORD]);
+    let mut lent = Lent::holding(&NO_MEANING);
     lent.open(&input.plant)?;
     let out = lent.queue(&requests, &vec![0; requests.len()])?.out;
     same_bytes(|at| format!("answer {} of the queue", at + 1), &answers, &out)?;
@@ -140,25 +147,16 @@ pub fn striking(input: &Input, _: &mut Counts) -> Result<(), Difference> {
     Ok(())
 }
 
-/// A plant file that is refused because a lattice is no order, whatever the
-/// second implementation says: opening and batch answer 8.
-pub fn no_order(input: &Input, counts: &mut Counts) -> Result<(), Difference> {
+/// A plant file by both entries that open one.
+pub fn opening_and_batch(input: &Input, counts: &mut Counts) -> Result<(), Difference> {
     opening(input, counts)?;
-    batch(input, counts)?;
-    same_number("number of the opening", 8, Lent::holding(&input.record).open(&input.plant)?)
+    batch(input, counts)
 }
 
-/// A record that is refused, whatever the second implementation says: calls and
-/// queue answer 20.
-pub fn refused_record(input: &Input, counts: &mut Counts) -> Result<(), Difference> {
+/// A record by both entries that test one.
+pub fn calls_and_queue(input: &Input, counts: &mut Counts) -> Result<(), Difference> {
     calls(input, counts)?;
-    queue(input, counts)?;
-    let mut lent = Lent::holding(&input.record);
-    for request in request_records(&input.requests) {
-        same_number("answer", 20, lent.call(request)?)?;
-    }
-    same_number("number of the queue", 20, lent.queue(&[], &[])?.number)?;
-    same_bytes(place_in_record, &input.record, lent.content())
+    queue(input, counts)
 }
 
 /// Skid, tank and right of each right held.
@@ -200,7 +198,7 @@ fn begin(input: &Input) -> Result<(Record, Lent), Difference> {
     if !input.record.is_empty() {
         return Ok((record_of_bytes(&input.record), Lent::holding(&input.record)));
     }
-    let mut lent = Lent::holding(&[165; RECORD]);
+    let mut lent = Lent::holding(&NO_MEANING);
     lent.open(&input.plant)?;
     let (_, record) = permit_monitor::open(&input.plant);
     same_record(&record, &lent)?;

@@ -1,6 +1,5 @@
 //! Inputs of which there are few enough to take every one.
 
-use crate::archives::RECORD;
 use crate::group::Inputs;
 use crate::input::Input;
 use crate::session;
@@ -91,7 +90,7 @@ fn circle_numbered(number: u64) -> Option<Lattice> {
 pub const BYTES: Inputs = every(132 * 256, |number| {
     let mut plant = session::plant();
     plant[(number / 256) as usize] = (number % 256) as u8;
-    vec![Input { record: vec![90; RECORD], ..session::with_plant(plant) }]
+    vec![session::with_plant(plant)]
 });
 
 /// The session with a buffer of each length; with its plant, and with its
@@ -114,7 +113,7 @@ pub const CUTS: Inputs = every(1300, |number| {
 /// The 720 orders in which the six sections can stand.
 pub const ORDERS: Inputs = every(720, |number| {
     let plant = Layout::ordered(number as usize).file(&session::draft());
-    vec![Input { record: vec![90; RECORD], ..session::with_plant(plant) }]
+    vec![session::with_plant(plant)]
 });
 
 /// Each request of these bytes on 01's monitor, fresh and after some of the
@@ -152,9 +151,9 @@ fn one_lattice(lattice: [u8; 34]) -> Vec<u8> {
     Layout::packed().file(&draft)
 }
 
-/// Opened into a record of no meaning.
+/// A plant file alone.
 fn opened(plant: Vec<u8>) -> Input {
-    Input { plant, record: vec![90; RECORD], ..Input::default() }
+    Input { plant, ..Input::default() }
 }
 
 /// The fresh monitor of one lattice, and then another lattice in its place.

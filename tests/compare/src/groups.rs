@@ -1,7 +1,7 @@
 //! The groups of comparisons, and how many seeds each takes in the gate.
 
 use crate::comparisons::{self as compare, Comparison};
-use crate::counts::{CALL, OPEN};
+use crate::counts::{BATCH, CALL, OPEN, QUEUE};
 use crate::group::{Group, Inputs};
 use crate::input::Input;
 use crate::{every, program, seeded};
@@ -13,6 +13,10 @@ use permit_monitor::gen::Rng;
 const ORDERS: u64 = 1 + 3 + 19 + 219;
 const LATTICES: u64 = 1 + 2 + 6 + 36;
 const RELATIONS: u64 = 2 + 16 + 512 + 65_536;
+
+/// Six orders of the circle's levels, and up to 13 levels more, shared out in
+/// every way between new bottoms and new tops. Each of them is refused.
+const CIRCLES: u64 = 6 * (14 * 15 / 2);
 
 /// The groups on the archives.
 pub fn on_archives() -> Vec<Group> {
@@ -42,14 +46,11 @@ fn opening() -> Vec<Group> {
     vec![
         group("opening, 01's plant with a byte changed", every::BYTES, compare::opening),
         group("opening, orders of the sections", every::ORDERS, compare::opening),
-        drawn("opening", 12_000, seeded::files, compare::opening),
+        drawn("opening", 12_000, seeded::openings, compare::opening),
     ]
 }
 
 fn lattices() -> Vec<Group> {
-    let files = group("lattices up to 4 levels, files", every::RELATION_FILES, compare::opening);
-    let records =
-        group("lattices up to 4 levels, records", every::RELATION_RECORDS, compare::calls);
     vec![
         Group {
             known: &[
@@ -57,13 +58,30 @@ fn lattices() -> Vec<Group> {
                 (OPEN, 9, ORDERS - LATTICES),
                 (OPEN, 8, RELATIONS - ORDERS),
             ],
-            ..files
+            ..group("lattices up to 4 levels, files", every::RELATION_FILES, compare::opening)
         },
-        Group { known: &[(CALL, 0, LATTICES), (CALL, 20, RELATIONS - LATTICES)], ..records },
+        Group {
+            known: &[(CALL, 0, LATTICES), (CALL, 20, RELATIONS - LATTICES)],
+            ..group("lattices up to 4 levels, records", every::RELATION_RECORDS, compare::calls)
+        },
         group("layouts of a lattice, files", every::LAYOUT_FILES, compare::opening),
         group("layouts of a lattice, records", every::LAYOUT_RECORDS, compare::calls),
-        group("circles of three levels, files", every::CIRCLE_FILES, compare::no_order),
-        group("circles of three levels, records", every::CIRCLE_RECORDS, compare::refused_record),
+        Group {
+            known: &[(OPEN, 8, CIRCLES), (BATCH, 8, CIRCLES)],
+            ..group(
+                "circles of three levels, files",
+                every::CIRCLE_FILES,
+                compare::opening_and_batch,
+            )
+        },
+        Group {
+            known: &[(CALL, 20, CIRCLES), (QUEUE, 20, CIRCLES)],
+            ..group(
+                "circles of three levels, records",
+                every::CIRCLE_RECORDS,
+                compare::calls_and_queue,
+            )
+        },
     ]
 }
 
@@ -71,7 +89,7 @@ fn calls() -> Vec<Group> {
     vec![
         group("calls, requests of small numbers", every::REQUESTS, compare::calls),
         drawn("calls", 1200, seeded::lists, compare::calls),
-        drawn("calls on damaged records", 200, seeded::damaged_records, compare::refused_record),
+        drawn("calls on damaged records", 200, seeded::damaged_records, compare::calls),
         drawn("calls on changed records", 3000, seeded::changed_records, compare::calls),
         drawn("calls on freely changed records", 600, seeded::freely_changed, compare::calls),
     ]

@@ -19,6 +19,7 @@ mod program;
 mod seeded;
 mod session;
 mod shrink;
+mod smaller;
 
 use counts::{Counts, ENTRIES, PROGRAM};
 use group::{Group, Inputs};

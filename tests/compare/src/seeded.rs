@@ -25,8 +25,13 @@ pub fn batches(rng: &mut Rng) -> Vec<Input> {
     [0, n, limit - 1, limit, limit + 1, limit + 700, length].map(with).to_vec()
 }
 
-/// A plant file, accepted or not, and a record of anything to open it into.
+/// A plant file, accepted or not.
 pub fn files(rng: &mut Rng) -> Vec<Input> {
+    vec![Input { plant: any_plant_file(rng), ..Input::default() }]
+}
+
+/// The same, and a record of anything to open it into.
+pub fn openings(rng: &mut Rng) -> Vec<Input> {
     let plant = any_plant_file(rng);
     let record = match rng.chance(1, 4) {
         true => record_bytes(&random_record(rng)),

@@ -6,9 +6,9 @@
 //! zero instead.
 
 use crate::input::Input;
-use permit_monitor::gen::plants::{state_length, Draft, Layout};
-use permit_monitor::opening::{header_number, HEADER, WIDTHS};
-use permit_monitor::section;
+use crate::smaller::{items, levels, without_items, without_levels};
+use permit_monitor::gen::plants::state_length;
+use permit_monitor::opening::HEADER;
 use std::ops::Range;
 
 /// After so many tries the shortest input so far has to do.
@@ -21,11 +21,12 @@ struct Way {
     without: fn(&Input, Range<usize>) -> Input,
 }
 
-const WAYS: [Way; 8] = [
+const WAYS: [Way; 9] = [
     Way { items: requests, without: without_requests_and_room },
     Way { items: requests, without: without_requests },
     Way { items: request_bytes, without: without_request_bytes },
-    Way { items: records, without: without_records },
+    Way { items, without: without_items },
+    Way { items: levels, without: without_levels },
     Way { items: plant_bytes, without: without_plant_bytes_restated },
     Way { items: plant_bytes, without: without_plant_bytes },
     Way { items: |input| input.buffer, without: without_room },
@@ -93,42 +94,6 @@ fn without_request_bytes(input: &Input, range: Range<usize>) -> Input {
     let mut shorter = input.clone();
     shorter.requests.drain(range);
     shorter
-}
-
-/// The records of the plant file's sections, where its header can be read.
-fn records(input: &Input) -> usize {
-    match header_number(&input.plant) {
-        0 => (0..6).map(|kind| usize::from(input.plant[1 + kind])).sum(),
-        _ => 0,
-    }
-}
-
-/// The plant file without some of its records, counted over all sections, and
-/// without gaps.
-fn without_records(input: &Input, range: Range<usize>) -> Input {
-    let mut first = 0;
-    let mut left = |kind: usize| {
-        let all: Vec<&[u8]> = section(&input.plant, kind).chunks_exact(WIDTHS[0][kind]).collect();
-        let begin = first;
-        first += all.len();
-        let stays = |&i: &usize| !range.contains(&(begin + i));
-        (0..all.len()).filter(stays).map(|i| all[i].to_vec()).collect::<Vec<_>>()
-    };
-    let draft = Draft {
-        lattices: fixed(left(0)),
-        requirements: fixed(left(1)),
-        groups: fixed(left(2)),
-        tanks: fixed(left(3)),
-        tasks: fixed(left(4)),
-        skids: fixed(left(5)),
-    };
-    Input { plant: Layout::packed().file(&draft), ..input.clone() }
-}
-
-/// Records of one width.
-fn fixed<const WIDTH: usize>(records: Vec<Vec<u8>>) -> Vec<[u8; WIDTH]> {
-    let record = |bytes: &Vec<u8>| bytes[..].try_into().expect("a record has its section's width");
-    records.iter().map(record).collect()
 }
 
 fn plant_bytes(input: &Input) -> usize {
