@@ -13,5 +13,6 @@ pub mod Shared
 pub mod Meaning
 pub mod Maximal
 pub mod Collected
+pub mod Written
 pub mod Count
 pub mod Rising

@@ -41,6 +41,7 @@ pub fn serve(p: Plant, bytes: &[u8], n: usize, out: &mut [u8]) -> Parts
     let mut levels = [255u8; 1024];
     let mut running = [255u8; 8];
     let mut chosen = [255u8; 64];
+    let mut made = [254u8; 128];
     for i in 0..n {
         let r = request_at(bytes, i);
         out[i] = turn(
@@ -55,6 +56,7 @@ pub fn serve(p: Plant, bytes: &[u8], n: usize, out: &mut [u8]) -> Parts
             &mut levels,
             &mut running,
             &mut chosen,
+            &mut made,
             p.skids,
             p.tasks,
             p.requirements,

@@ -1,5 +1,6 @@
 pub mod Rows
 pub mod Known
+pub mod Made
 pub mod Early
 pub mod Ready
 pub mod Meet

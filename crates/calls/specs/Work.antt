@@ -1,10 +1,11 @@
 -- What the work of each call does on the arrays that are lent to it. proofs/Meet has that on a record that passes test 20 this is what the rules say.
 use mathlib.Core.Path.{_≡_}
+use mathlib.Core.Logic.{_⊎_}
 use Prim.Native.Nat.{ℕ, _+_, _*_, _<_}
 use mathlib.Core.Bool.{Bool, true, false, not, cond, _&&_, _||_}
 use mathlib.Core.List.{List, [], _∷_}
 use lib.Dec.{eqb, ltb, leb}
-use lib.ListN.{getD, replicate}
+use lib.ListN.{getD, length, replicate}
 use lib.ListN as ListN
 use Rattle.base.specs.Below.{allBelow, anyBelow}
 use Rattle.base.specs.Bits.{bit}
@@ -45,10 +46,19 @@ gateAnswer group rights running chosen skids tanks s o r =
 abbrev pub blankIn : List ℕ → List ℕ → List ℕ → ℕ → ℕ → ℕ → Bool
 blankIn requirement rights levels s t g = not (eqb (getD rights (t * 8 + g) 0) 0) && eqb (getD levels (levelAt s t (getD requirement g 0)) 0) 255
 
+-- the choice from group g under level v of its requirement
+abbrev pub groupChoice : List ℕ → List ℕ → List ℕ → List ℕ → List ℕ → ℕ → ℕ → ℕ → ℕ
+groupChoice sets group level lattice requirement tanks g v = choiceIn sets group level (getD lattice (getD requirement g 0) 0) g v tanks
+
+-- Choices made before, which depend on the plant alone: the entry of a group and a level is the choice, or 254 where none was made yet.
+pub record Remembered (sets group level lattice requirement : List ℕ) (tanks : ℕ) (made : List ℕ) : Type 0 where
+  pub size : length made ≡ 128
+  pub right : (g v : ℕ) → g < 8 → v < 16 → (getD made (g * 16 + v) 0 ≡ 254) ⊎ (getD made (g * 16 + v) 0 ≡ groupChoice sets group level lattice requirement tanks g v)
+
 abbrev pub pickIn : List ℕ → List ℕ → List ℕ → List ℕ → List ℕ → List ℕ → List ℕ → ℕ → ℕ → ℕ → ℕ → ℕ
 pickIn sets group level lattice requirement rights levels tanks s t g =
     cond (eqb (getD rights (t * 8 + g) 0) 0) 255
-    (choiceIn sets group level (getD lattice (getD requirement g 0) 0) g (getD levels (levelAt s t (getD requirement g 0)) 0) tanks)
+    (groupChoice sets group level lattice requirement tanks g (getD levels (levelAt s t (getD requirement g 0)) 0))
 
 abbrev pub rowIn : List ℕ → List ℕ → List ℕ → List ℕ → List ℕ → List ℕ → List ℕ → ℕ → ℕ → ℕ → ℕ → List ℕ
 rowIn sets group level lattice requirement rights levels tanks s t groups =

@@ -6,7 +6,7 @@ ghost use lib.ListN.{getD, replicate, set};
 ghost use Rattle.base.specs.Below.{allBelow, anyBelow};
 ghost use Rattle.plant.specs.Checks.{entryBelow};
 ghost use Rattle.rules.specs.Record.{fillFrom};
-ghost use Rattle.calls.specs.Work.{taskKnown, levelKnown, setNumber, setLevels, gateAnswer, blankIn, pickIn, rowIn, lackingIn, startEarly, linkIn, wishKnown, Lent, Started, Turned, heldIn, getRow, stopNumber, stopRunning, stopChosen};
+ghost use Rattle.calls.specs.Work.{taskKnown, levelKnown, setNumber, setLevels, gateAnswer, blankIn, pickIn, rowIn, lackingIn, startEarly, linkIn, wishKnown, Lent, Started, Turned, heldIn, getRow, groupChoice, Remembered, stopNumber, stopRunning, stopChosen};
 use choice::choose;
 
 fn wide(x: u8) -> usize
@@ -169,6 +169,35 @@ fn stop_at(running: &mut [u8; 8], chosen: &mut [u8; 64], skids: u8, s: u8) -> u8
     0
 }
 
+// The choice from group g under level v, looked for once: `made` keeps the choices that were made before, and 254 where none was.
+fn choose_once<'a>(
+    sets: &'a [u16; 128],
+    group: &'a [u8; 64],
+    level: &'a [u8; 64],
+    lattice: &'a [u8; 8],
+    requirement: &'a [u8; 8],
+    made: &mut [u8; 128],
+    tanks: u8,
+    g: u8,
+    v: u8,
+) -> u8
+    requires { ⌜ (g < 8) × ((v < 16) × (tanks ≤ 64)) ⌝ }
+    requires { ⌜ (getD (now requirement) g 0 < 8) × (getD (now lattice) (getD (now requirement) g 0) 0 < 8) ⌝ }
+    requires { ⌜ allBelow (entryBelow (now level) 16) tanks ≡ true ⌝ }
+    requires { ⌜ Remembered (now sets) (now group) (now level) (now lattice) (now requirement) tanks (now made) ⌝ }
+    ensures { λ r. ⌜ (r ≡ groupChoice (now (sets .entry)) (now (group .entry)) (now (level .entry)) (now (lattice .entry)) (now (requirement .entry)) tanks g v) × Remembered (now (sets .entry)) (now (group .entry)) (now (level .entry)) (now (lattice .entry)) (now (requirement .entry)) tanks (now (made .exit)) ⌝ }
+{
+    let k = g as usize * 16 + v as usize;
+    let before = made[k];
+    if before != 254 {
+        return before;
+    }
+    let l = wide(lattice[wide(requirement[g as usize])]);
+    let o = choose(sets, group, level, l, g, v, tanks);
+    made[k] = o;
+    o
+}
+
 // The tank for group g: the choice under the skid's level where the task has a right there, and else 255.
 fn pick_at<'a>(
     sets: &'a [u16; 128],
@@ -178,6 +207,7 @@ fn pick_at<'a>(
     requirement: &'a [u8; 8],
     rights: &'a [u8; 128],
     levels: &[u8; 1024],
+    made: &mut [u8; 128],
     tanks: u8,
     s: usize,
     t: usize,
@@ -187,15 +217,15 @@ fn pick_at<'a>(
     requires { ⌜ (getD (now requirement) g 0 < 8) × (getD (now lattice) (getD (now requirement) g 0) 0 < 8) ⌝ }
     requires { ⌜ allBelow (entryBelow (now level) 16) tanks ≡ true ⌝ }
     requires { ⌜ (blankIn (now requirement) (now rights) (now levels) s t g ≡ false) × (levelKnown (now levels) s t (getD (now requirement) g 0) ≡ true) ⌝ }
-    ensures { λ r. ⌜ r ≡ pickIn (now (sets .entry)) (now (group .entry)) (now (level .entry)) (now (lattice .entry)) (now (requirement .entry)) (now (rights .entry)) (now (levels .entry)) tanks s t g ⌝ }
+    requires { ⌜ Remembered (now sets) (now group) (now level) (now lattice) (now requirement) tanks (now made) ⌝ }
+    ensures { λ r. ⌜ (r ≡ pickIn (now (sets .entry)) (now (group .entry)) (now (level .entry)) (now (lattice .entry)) (now (requirement .entry)) (now (rights .entry)) (now (levels .entry)) tanks s t g) × Remembered (now (sets .entry)) (now (group .entry)) (now (level .entry)) (now (lattice .entry)) (now (requirement .entry)) tanks (now (made .exit)) ⌝ }
 {
     if rights[t * 8 + g as usize] == 0 {
         return 255;
     }
     let d = wide(requirement[g as usize]);
-    let l = wide(lattice[d]);
     let v = levels[(s * 16 + t) * 8 + d];
-    choose(sets, group, level, l, g, v, tanks)
+    choose_once(sets, group, level, lattice, requirement, made, tanks, g, v)
 }
 
 // The skid's row of choices for a task whose levels are set.
@@ -207,6 +237,7 @@ fn choose_row<'a>(
     requirement: &'a [u8; 8],
     rights: &'a [u8; 128],
     levels: &[u8; 1024],
+    made: &mut [u8; 128],
     tanks: u8,
     s: usize,
     t: usize,
@@ -216,7 +247,8 @@ fn choose_row<'a>(
     requires { ⌜ allBelow (linkIn (now lattice) (now requirement)) groups ≡ true ⌝ }
     requires { ⌜ allBelow (entryBelow (now level) 16) tanks ≡ true ⌝ }
     requires { ⌜ (anyBelow (blankIn (now requirement) (now rights) (now levels) s t) groups ≡ false) × (allBelow (wishKnown (now requirement) (now levels) s t) groups ≡ true) ⌝ }
-    ensures { λ r. ⌜ r ≡ rowIn (now (sets .entry)) (now (group .entry)) (now (level .entry)) (now (lattice .entry)) (now (requirement .entry)) (now (rights .entry)) (now (levels .entry)) tanks s t groups ⌝ }
+    requires { ⌜ Remembered (now sets) (now group) (now level) (now lattice) (now requirement) tanks (now made) ⌝ }
+    ensures { λ r. ⌜ (r ≡ rowIn (now (sets .entry)) (now (group .entry)) (now (level .entry)) (now (lattice .entry)) (now (requirement .entry)) (now (rights .entry)) (now (levels .entry)) tanks s t groups) × Remembered (now (sets .entry)) (now (group .entry)) (now (level .entry)) (now (lattice .entry)) (now (requirement .entry)) tanks (now (made .exit)) ⌝ }
 {
     let mut row = [255u8; 8];
     let mut g: u8 = 0;
@@ -229,6 +261,7 @@ fn choose_row<'a>(
             requirement,
             rights,
             levels,
+            made,
             tanks,
             s,
             t,
@@ -316,6 +349,7 @@ fn start_at<'a>(
     levels: &[u8; 1024],
     running: &mut [u8; 8],
     chosen: &mut [u8; 64],
+    made: &mut [u8; 128],
     skids: u8,
     tasks: u8,
     groups: u8,
@@ -326,8 +360,9 @@ fn start_at<'a>(
     requires { ⌜ (skids ≤ 8) × ((tasks ≤ 16) × ((groups ≤ 8) × (tanks ≤ 64))) ⌝ }
     requires { ⌜ (allBelow (linkIn (now lattice) (now requirement)) groups ≡ true) × (allBelow (entryBelow (now requirement) 8) groups ≡ true) ⌝ }
     requires { ⌜ allBelow (entryBelow (now level) 16) tanks ≡ true ⌝ }
+    requires { ⌜ Remembered (now sets) (now group) (now level) (now lattice) (now requirement) tanks (now made) ⌝ }
     requires { ⌜ (s < skids → t < tasks → allBelow (wishKnown (now requirement) (now levels) s t) groups ≡ true) ⌝ }
-    ensures { λ r. ⌜ Started (now (sets .entry)) (now (group .entry)) (now (level .entry)) (now (lattice .entry)) (now (requirement .entry)) (now (rights .entry)) (now (may .entry)) (now (levels .entry)) (now (running .entry)) (now (chosen .entry)) skids tasks groups tanks s t r (now (running .exit)) (now (chosen .exit)) ⌝ }
+    ensures { λ r. ⌜ (Started (now (sets .entry)) (now (group .entry)) (now (level .entry)) (now (lattice .entry)) (now (requirement .entry)) (now (rights .entry)) (now (may .entry)) (now (levels .entry)) (now (running .entry)) (now (chosen .entry)) skids tasks groups tanks s t r (now (running .exit)) (now (chosen .exit))) × Remembered (now (sets .entry)) (now (group .entry)) (now (level .entry)) (now (lattice .entry)) (now (requirement .entry)) tanks (now (made .exit)) ⌝ }
 {
     let early = start_early(
         may,
@@ -352,6 +387,7 @@ fn start_at<'a>(
         requirement,
         rights,
         levels,
+        made,
         tanks,
         s as usize,
         t as usize,
@@ -365,7 +401,7 @@ fn start_at<'a>(
     0
 }
 
-// One request of any kind: 0 set, 1 start, 2 stop, 3 gate, and 32 for another.
+// One request of any kind: 0 set, 1 start, 2 stop, 3 gate, and 32 for another. Whoever makes a list of requests lends `made` to all of them.
 pub fn turn<'a>(
     sizes: &'a [u8; 8],
     sets: &'a [u16; 128],
@@ -378,6 +414,7 @@ pub fn turn<'a>(
     levels: &mut [u8; 1024],
     running: &mut [u8; 8],
     chosen: &mut [u8; 64],
+    made: &mut [u8; 128],
     skids: u8,
     tasks: u8,
     requirements: u8,
@@ -391,7 +428,8 @@ pub fn turn<'a>(
 ) -> u8
     requires { ⌜ (skids ≤ 8) × ((tasks ≤ 16) × ((requirements ≤ 8) × ((groups ≤ 8) × (tanks ≤ 64)))) ⌝ }
     requires { ⌜ Lent (now lattice) (now requirement) (now group) (now level) (now levels) (now running) skids tasks requirements groups tanks ⌝ }
-    ensures { λ r. ⌜ Turned (now (sizes .entry)) (now (sets .entry)) (now (lattice .entry)) (now (requirement .entry)) (now (group .entry)) (now (level .entry)) (now (rights .entry)) (now (may .entry)) (now (levels .entry)) (now (running .entry)) (now (chosen .entry)) skids tasks requirements groups tanks kind a b c d r (now (levels .exit)) (now (running .exit)) (now (chosen .exit)) ⌝ }
+    requires { ⌜ Remembered (now sets) (now group) (now level) (now lattice) (now requirement) tanks (now made) ⌝ }
+    ensures { λ r. ⌜ (Turned (now (sizes .entry)) (now (sets .entry)) (now (lattice .entry)) (now (requirement .entry)) (now (group .entry)) (now (level .entry)) (now (rights .entry)) (now (may .entry)) (now (levels .entry)) (now (running .entry)) (now (chosen .entry)) skids tasks requirements groups tanks kind a b c d r (now (levels .exit)) (now (running .exit)) (now (chosen .exit))) × Remembered (now (sets .entry)) (now (group .entry)) (now (level .entry)) (now (lattice .entry)) (now (requirement .entry)) tanks (now (made .exit)) ⌝ }
 {
     if kind == 0 {
         return set_at(
@@ -419,6 +457,7 @@ pub fn turn<'a>(
             levels,
             running,
             chosen,
+            made,
             skids,
             tasks,
             groups,

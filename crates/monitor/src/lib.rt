@@ -70,6 +70,7 @@ pub fn advance(m: Monitor, kind: u8, a: u8, b: u8, c: u8, d: u8) -> Answered
     let mut levels = m.levels;
     let mut running = m.running;
     let mut chosen = m.chosen;
+    let mut made = [254u8; 128];
     let answer = turn(
         &p.sizes,
         &p.sets,
@@ -82,6 +83,7 @@ pub fn advance(m: Monitor, kind: u8, a: u8, b: u8, c: u8, d: u8) -> Answered
         &mut levels,
         &mut running,
         &mut chosen,
+        &mut made,
         p.skids,
         p.tasks,
         p.requirements,

@@ -9,25 +9,25 @@ set-at-requires : tie.Need-set-at-requires
 set-at-requires c κs =
     let s = c .before .before in
     let n = s .pre .0 in
-    ((n .0, (n .1 .0, n .1 .1 .0)), s .pre .1 .lattices-there)
+    ((n .0, (n .1 .0, n .1 .1 .0)), s .pre .1 .0 .lattices-there)
 
 returns : tie.Need-returns
 returns c =
     let k = c .before .before .if1 .taken in
-    record { answers = c .set-at .ensures .0 ∙ rw k; sets-levels = c .set-at .ensures .1 ∙ rw k; runs = rw k; chooses = rw k }
+    (record { answers = c .set-at .ensures .0 ∙ rw k; sets-levels = c .set-at .ensures .1 ∙ rw k; runs = rw k; chooses = rw k }, c .before .before .before .pre .1 .1)
 
 start-at-requires : tie.Need-start-at-requires
 start-at-requires c κs =
-    let s = c .before .before .before .before .before in
+    let s = c .before .before .before .before .before .before in
     let n = s .pre .0 in
-    let h = s .pre .1 in
-    ((n .0, (n .1 .0, (n .1 .1 .1 .0, n .1 .1 .1 .1))), ((h .links-there, h .requirements-there), (h .levels-there, h .wishes-known (s .args .a) (s .args .b))))
+    let h = s .pre .1 .0 in
+    ((n .0, (n .1 .0, (n .1 .1 .1 .0, n .1 .1 .1 .1))), ((h .links-there, h .requirements-there), (h .levels-there, (s .pre .1 .1, h .wishes-known (s .args .a) (s .args .b)))))
 
 returns-2 : tie.Need-returns-2
 returns-2 c =
-    let k = c .before .before .before .before .if2 .taken in
-    let h = c .start-at .ensures in
-    record { answers = h .answers ∙ rw k; sets-levels = rw k; runs = h .runs ∙ rw k; chooses = h .chooses ∙ rw k }
+    let k = c .before .before .before .before .before .if2 .taken in
+    let h = c .start-at .ensures .0 in
+    (record { answers = h .answers ∙ rw k; sets-levels = rw k; runs = h .runs ∙ rw k; chooses = h .chooses ∙ rw k }, c .start-at .ensures .1)
 
 stop-at-requires : tie.Need-stop-at-requires
 stop-at-requires c κs = c .before .before .before .before .before .pre .0 .0
@@ -36,17 +36,17 @@ returns-3 : tie.Need-returns-3
 returns-3 c =
     let k = c .before .before .before .if3 .taken in
     let h = c .stop-at .ensures in
-    record { answers = h .0 ∙ rw k; sets-levels = rw k; runs = h .1 .0 ∙ rw k; chooses = h .1 .1 ∙ rw k }
+    (record { answers = h .0 ∙ rw k; sets-levels = rw k; runs = h .1 .0 ∙ rw k; chooses = h .1 .1 ∙ rw k }, c .before .before .before .before .before .before .pre .1 .1)
 
 gate-at-requires : tie.Need-gate-at-requires
 gate-at-requires c κs =
     let s = c .before .before .before .before .before .before in
-    ((s .pre .0 .0, s .pre .0 .1 .1 .1 .1), (s .pre .1 .groups-there, s .pre .1 .tasks-known))
+    ((s .pre .0 .0, s .pre .0 .1 .1 .1 .1), (s .pre .1 .0 .groups-there, s .pre .1 .0 .tasks-known))
 
 returns-4 : tie.Need-returns-4
 returns-4 c =
     let k = c .before .before .before .if4 .taken in
-    record { answers = c .gate-at .ensures ∙ rw k; sets-levels = rw k; runs = rw k; chooses = rw k }
+    (record { answers = c .gate-at .ensures ∙ rw k; sets-levels = rw k; runs = rw k; chooses = rw k }, c .before .before .before .before .before .before .before .pre .1 .1)
 
 returns-5 : tie.Need-returns-5
 returns-5 c =
@@ -55,7 +55,7 @@ returns-5 c =
     let f = ne-eqb _ _ (t .if3 .left) in
     let g = ne-eqb _ _ (t .before .if2 .left) in
     let h = ne-eqb _ _ (t .before .before .if1 .left) in
-    record { answers = simp (e, f, g, h); sets-levels = simp h; runs = simp (f, g); chooses = simp (f, g) }
+    (record { answers = simp (e, f, g, h); sets-levels = simp h; runs = simp (f, g); chooses = simp (f, g) }, c .before .before .before .before .pre .1 .1)
 
 pub turn-spec : {M : Type 1} → statement M
 turn-spec =

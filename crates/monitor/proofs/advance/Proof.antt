@@ -2,6 +2,7 @@
 use mathlib.Core.Path.{_≡_, _∙_}
 use Rattle.calls.specs.Work.{callBy}
 use Rattle.calls.proofs.Ready.{plant-valid}
+use Rattle.calls.proofs.Made.{none-made}
 use Rattle.calls.proofs.Turns.{lent, turned-answer, turned-record}
 use Rattle.monitor.proofs.Step.{passed-on}
 use borrow.Author.Needs.{needs}
@@ -10,17 +11,17 @@ use Rattle.monitor.proofs.advance.Tie as tie
 
 turn-requires : tie.Need-turn-requires
 turn-requires c κs =
-    let s = c .before .before .before .before .before .before .before .before .before .before .before .before .before .before .before .before in
+    let s = c .before .before .before .before .before .before .before .before .before .before .before .before .before .before .before .before .before in
     let f = plant-valid (s .args .m) (s .pre) .counts in
-    ((f .skids-fit, (f .tasks-fit, (f .requirements-fit, (f .groups-fit, f .tanks-fit)))), lent (s .args .m) (s .pre))
+    ((f .skids-fit, (f .tasks-fit, (f .requirements-fit, (f .groups-fit, f .tanks-fit)))), (lent (s .args .m) (s .pre), none-made _ _ _ _ _ _))
 
 returns : tie.Need-returns
 returns c =
-    let s = c .before .before .before .before .before .before .before .before .before .before .before .before .before .before .before .before .before in
+    let s = c .before .before .before .before .before .before .before .before .before .before .before .before .before .before .before .before .before .before in
     let a = s .args in
     passed-on (a .m) (s .pre) (callBy (a .kind) (a .a) (a .b) (a .c) (a .d))
-    (turned-answer (a .m) (s .pre) (a .kind) (a .a) (a .b) (a .c) (a .d) (c .turn .ensures))
-    (turned-record (a .m) (s .pre) (a .kind) (a .a) (a .b) (a .c) (a .d) (c .turn .ensures))
+    (turned-answer (a .m) (s .pre) (a .kind) (a .a) (a .b) (a .c) (a .d) (c .turn .ensures .0))
+    (turned-record (a .m) (s .pre) (a .kind) (a .a) (a .b) (a .c) (a .d) (c .turn .ensures .0))
 
 pub advance-spec : {M : Type 1} → statement M
 advance-spec =

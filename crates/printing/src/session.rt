@@ -1,0 +1,55 @@
+// The program's input as a plant and requests, and the text of what the batch makes of them.
+ghost use mathlib.Core.Path.{_≡_};
+ghost use Prim.Native.Nat.{_<_, _≤_};
+ghost use lib.ListN.{length};
+ghost use Rattle.base.specs.Overlay.{Wrote};
+ghost use Rattle.printing.specs.Printed.{batchLines, plantLength, printed};
+use crate::print_outcome;
+use crate::put_refusal;
+use crate::put_word;
+use panel::permits_batch;
+
+// 65,536 bytes have at most 13,107 requests, so this is room for the answers, a count, and 255 rights of three bytes.
+const RESULTS: usize = 13107 + 766;
+
+// Room for 13,107 lines of ten bytes, the held line, and 255 lines of twelve.
+const TEXT: usize = 131070 + 3069;
+
+fn wide(x: u8) -> usize
+    ensures { λ r. ⌜ (r ≡ x) × (r < 256) ⌝ }
+{
+    x as usize
+}
+
+fn plant_length(input: &[u8]) -> usize
+    requires { ⌜ 24 ≤ length (now input) ⌝ }
+    ensures { λ r. ⌜ r ≡ plantLength (now (input .entry)) ⌝ }
+{
+    wide(input[20]) + wide(input[21]) * 256
+}
+
+fn print_batch(plant: &[u8], requests: &[u8], text: &mut [u8]) -> usize
+    requires { ⌜ (length (now requests) ≤ 65536) × (134139 ≤ length (now text)) ⌝ }
+    ensures { λ r. ⌜ Wrote (batchLines (now (plant .entry)) (now (requests .entry))) (now (text .entry)) 0 (now (text .exit)) r ⌝ }
+{
+    let mut results = [0u8; RESULTS];
+    let number = permits_batch(plant, requests, &mut results);
+    print_outcome(number, &results, requests.len() / 5, text)
+}
+
+// Over 65,536 bytes are too long. A plant that is not all there is refused with 1, as a file of another length than it says.
+pub fn print_session(input: &[u8], text: &mut [u8; TEXT]) -> usize
+    ensures { λ r. ⌜ Wrote (printed (now (input .entry))) (now (text .entry)) 0 (now (text .exit)) r ⌝ }
+{
+    if input.len() > 65536 {
+        return put_word(text, 0, b"long\n");
+    }
+    if input.len() < 24 {
+        return put_refusal(text, 0, 1);
+    }
+    let k = plant_length(input);
+    if input.len() < k {
+        return put_refusal(text, 0, 1);
+    }
+    print_batch(&input[..k], &input[k..], text)
+}

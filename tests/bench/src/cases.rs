@@ -1,0 +1,167 @@
+//! What is measured: a function of each side on the same input.
+
+use std::hint::black_box;
+
+use permit_monitor::monitor::NONE;
+use permit_monitor::{queue, Record};
+
+use crate::inputs::{
+    list, maximum_plant, paper_plant, wild_list, GATE, MIXED, SET, START, START_STOP,
+};
+use crate::{baseline, rattle};
+
+/// Requests in a measured list.
+pub const REQUESTS: usize = 10_000;
+
+/// One measured call, on both sides.
+pub struct Case {
+    pub name: String,
+    /// The functions that do the work, by the names that a profiler sees.
+    pub functions: [&'static str; 2],
+    pub rattle: Box<dyn FnMut()>,
+    pub baseline: Box<dyn FnMut()>,
+}
+
+/// A row of the table: one case, or the difference of two for each request.
+pub enum Row {
+    Whole(Case),
+    PerRequest { name: String, full: Case, empty: Case },
+}
+
+/// Every row, for both plants.
+pub fn rows() -> Vec<Row> {
+    let mut rows = Vec::new();
+    for (name, file) in [("01's plant", paper_plant()), ("maximum plant", maximum_plant())] {
+        rows.extend(plant_rows(name, &file));
+    }
+    rows
+}
+
+fn plant_rows(plant: &str, file: &[u8]) -> Vec<Row> {
+    let lists = [
+        ("mixed", list(file, &MIXED, REQUESTS)),
+        ("start and stop", list(file, &START_STOP, REQUESTS)),
+        ("wild", wild_list(REQUESTS)),
+    ];
+    let mut rows = vec![Row::Whole(opening(plant, file))];
+    for (name, requests) in &lists {
+        rows.push(Row::PerRequest {
+            name: format!("{plant}, batch, a request, {name}"),
+            full: batch(plant, name, file, requests),
+            empty: batch(plant, "empty", file, &[]),
+        });
+    }
+    rows.push(Row::Whole(batch(plant, "empty", file, &[])));
+    for (name, requests) in &lists {
+        rows.push(Row::PerRequest {
+            name: format!("{plant}, queue, a request, {name}"),
+            full: queue_case(plant, name, file, requests),
+            empty: queue_case(plant, "empty", file, &[]),
+        });
+    }
+    rows.extend(console_cases(plant, file).into_iter().map(Row::Whole));
+    rows
+}
+
+fn opening(plant: &str, file: &[u8]) -> Case {
+    let (file, other_file) = (file.to_vec(), file.to_vec());
+    let (mut record, mut other) = (Record::zeros(), Record::zeros());
+    Case {
+        name: format!("{plant}, opening"),
+        functions: ["permits_open", "baseline_open"],
+        rattle: Box::new(move || {
+            black_box(rattle::open(&mut record, black_box(&file)));
+        }),
+        baseline: Box::new(move || {
+            black_box(baseline::open(&mut other, black_box(&other_file)));
+        }),
+    }
+}
+
+fn batch(plant: &str, name: &str, file: &[u8], requests: &[[u8; 5]]) -> Case {
+    let (file, other_file) = (file.to_vec(), file.to_vec());
+    let (requests, other_requests) = (requests.concat(), requests.concat());
+    let mut out = vec![0; requests.len() / 5 + 577];
+    let mut other_out = out.clone();
+    Case {
+        name: format!("{plant}, batch, {name}"),
+        functions: ["permits_batch", "baseline_batch"],
+        rattle: Box::new(move || {
+            black_box(rattle::batch(black_box(&file), black_box(&requests), &mut out));
+        }),
+        baseline: Box::new(move || {
+            let file = black_box(&other_file);
+            black_box(baseline::batch(file, black_box(&other_requests), &mut other_out));
+        }),
+    }
+}
+
+fn queue_case(plant: &str, name: &str, file: &[u8], requests: &[[u8; 5]]) -> Case {
+    let (requests, other_requests) = (requests.to_vec(), requests.to_vec());
+    let mut record = permit_monitor::open(file).1;
+    let mut other = record;
+    let mut out = vec![0; requests.len()];
+    let mut other_out = out.clone();
+    Case {
+        name: format!("{plant}, queue, {name}"),
+        functions: ["permits_queue", "baseline_queue"],
+        rattle: Box::new(move || {
+            black_box(rattle::queue(&mut record, black_box(&requests), &mut out));
+        }),
+        baseline: Box::new(move || {
+            black_box(baseline::queue(&mut other, black_box(&other_requests), &mut other_out));
+        }),
+    }
+}
+
+/// A set, a start and a gate, each accepted, on a record on which a list was
+/// made.
+fn console_cases(plant: &str, file: &[u8]) -> Vec<Case> {
+    let mut record = permit_monitor::open(file).1;
+    let past = list(file, &MIXED, 400);
+    queue(&mut record, &past, &mut vec![0; past.len()]);
+    let (skid, tank, right) = record.held()[0];
+    let task = record.running[usize::from(skid)];
+    let requirement = record.plant.requirement[usize::from(record.plant.group[usize::from(tank)])];
+    let mut idle = record;
+    make_idle(&mut idle, skid);
+    let set = [SET, skid, task, requirement, 0];
+    let start = [START, skid, task, 0, 0];
+    let gate = [GATE, skid, tank, right, 0];
+    vec![
+        console_case(format!("{plant}, console, set"), record, set, |_| ()),
+        console_case(format!("{plant}, console, start"), idle, start, move |record| {
+            make_idle(record, skid)
+        }),
+        console_case(format!("{plant}, console, gate"), record, gate, |_| ()),
+    ]
+}
+
+/// What a stop does, without a call.
+fn make_idle(record: &mut Record, skid: u8) {
+    let s = usize::from(skid);
+    record.running[s] = NONE;
+    record.chosen[s * 8..s * 8 + 8].fill(NONE);
+}
+
+/// A request made again and again; `restore` takes its effect back.
+fn console_case(
+    name: String,
+    record: Record,
+    request: [u8; 5],
+    restore: impl Fn(&mut Record) + Copy + 'static,
+) -> Case {
+    let (mut record, mut other) = (record, record);
+    Case {
+        name,
+        functions: ["permits_call", "baseline_call"],
+        rattle: Box::new(move || {
+            assert_eq!(rattle::call(&mut record, black_box(request)), 0);
+            restore(&mut record);
+        }),
+        baseline: Box::new(move || {
+            assert_eq!(baseline::call(&mut other, black_box(request)), 0);
+            restore(&mut other);
+        }),
+    }
+}
