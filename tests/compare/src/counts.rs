@@ -59,11 +59,11 @@ impl Counts {
         entry.numbers.iter().filter(|number| !seen(number)).copied().collect()
     }
 
-    /// Each number of the entry with its count, on one line.
+    /// Each number that the entry gave, and how often, on one line.
     pub fn line(&self, entry: &Entry) -> String {
         let of_entry = self.0.iter().filter(|((name, _), _)| *name == entry.name);
         let numbers: Vec<String> =
-            of_entry.map(|((_, number), count)| format!("{number}: {count}")).collect();
-        format!("{}  {}", entry.name, numbers.join(", "))
+            of_entry.map(|((_, number), count)| format!("{number} ({count})")).collect();
+        format!("{}: {}", entry.name, numbers.join(", "))
     }
 }

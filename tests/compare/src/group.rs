@@ -82,35 +82,33 @@ impl Group {
     fn run_share(&self, numbers: impl Iterator<Item = u64>) -> Found {
         let mut found = Found::default();
         for number in numbers {
-            for input in self.inputs_of(number) {
-                found.cases += 1;
-                if let Err(difference) = self.compared(&input, &mut found.counts) {
-                    found.differing += 1;
-                    found.first.get_or_insert(First { number, input, difference });
+            match self.inputs_of(number) {
+                Ok(inputs) => {
+                    inputs.into_iter().for_each(|input| self.take(number, input, &mut found))
                 }
+                Err(difference) => found.add(number, Input::default(), Err(difference)),
             }
         }
         found
     }
 
-    fn inputs_of(&self, number: u64) -> Vec<Input> {
-        match self.inputs {
-            Inputs::Seeded { make, .. } => make(&mut Rng::new(number)),
-            Inputs::Every { make, .. } => make(number),
-        }
+    fn take(&self, number: u64, input: Input, found: &mut Found) {
+        let outcome = self.compared(&input, &mut found.counts);
+        found.add(number, input, outcome);
     }
 
-    /// The comparison. The second implementation must not panic on any input;
-    /// where it does, that is reported with the input like any difference.
-    fn compared(&self, input: &Input, counts: &mut Counts) -> Result<(), Difference> {
-        let run = AssertUnwindSafe(|| (self.compare)(input, counts));
-        catch_unwind(run).unwrap_or_else(|_| {
-            Err(Difference {
-                what: "the comparison panicked".to_string(),
-                expected: "an answer".to_string(),
-                got: "a panic, written above".to_string(),
+    /// The generator uses the second implementation to aim its inputs.
+    fn inputs_of(&self, number: u64) -> Result<Vec<Input>, Difference> {
+        without_panic(|| {
+            Ok(match self.inputs {
+                Inputs::Seeded { make, .. } => make(&mut Rng::new(number)),
+                Inputs::Every { make, .. } => make(number),
             })
         })
+    }
+
+    fn compared(&self, input: &Input, counts: &mut Counts) -> Result<(), Difference> {
+        without_panic(|| (self.compare)(input, counts))
     }
 
     /// The line of the group, and what differs where something does.
@@ -136,8 +134,15 @@ impl Group {
             Inputs::Seeded { .. } => "seed",
             Inputs::Every { .. } => "number",
         };
-        let differs = |input: &Input| self.compared(input, &mut Counts::default()).is_err();
-        let input = shortest(&first.input, differs);
+        // a shorter input that panics shows another fault than one that differs
+        let panics = |difference: &Difference| difference.got == PANIC;
+        let differs = |input: &Input| {
+            let outcome = self.compared(input, &mut Counts::default());
+            outcome.is_err_and(|difference| panics(&difference) == panics(&first.difference))
+        };
+        // the shrinker reads plants with the second implementation too
+        let shorter = without_panic(|| Ok(shortest(&first.input, differs)));
+        let input = shorter.unwrap_or_else(|_| first.input.clone());
         let again = self.compared(&input, &mut Counts::default());
         let difference = again.err().unwrap_or_else(|| first.difference.clone());
         format!(
@@ -152,7 +157,30 @@ impl Group {
     }
 }
 
+/// What a difference says of a panic.
+const PANIC: &str = "a panic, written to standard error";
+
+/// The second implementation must not panic on any input; where it does, that is
+/// reported with the seed like any difference.
+fn without_panic<T>(work: impl FnOnce() -> Result<T, Difference>) -> Result<T, Difference> {
+    catch_unwind(AssertUnwindSafe(work)).unwrap_or_else(|_| {
+        Err(Difference {
+            what: "an answer of the second implementation".to_string(),
+            expected: "any".to_string(),
+            got: PANIC.to_string(),
+        })
+    })
+}
+
 impl Found {
+    fn add(&mut self, number: u64, input: Input, outcome: Result<(), Difference>) {
+        self.cases += 1;
+        if let Err(difference) = outcome {
+            self.differing += 1;
+            self.first.get_or_insert(First { number, input, difference });
+        }
+    }
+
     fn merge(&mut self, other: Found) {
         self.cases += other.cases;
         self.differing += other.differing;

@@ -21,9 +21,8 @@ mod session;
 mod shrink;
 mod smaller;
 
-use counts::{Counts, ENTRIES, PROGRAM};
+use counts::{Counts, ENTRIES};
 use group::{Group, Inputs};
-use program::{presence, Presence};
 use std::io::Write;
 use std::process::ExitCode;
 
@@ -57,6 +56,9 @@ fn main() -> ExitCode {
     let mut tally = Tally::default();
     tally.run(&wanted, groups::on_archives());
     tally.run_program(&wanted);
+    if tally.passed + tally.failed == 0 {
+        tally.add(false, "FAILED: there is no group whose name begins so");
+    }
     tally.report_counts(&wanted);
     println!("{} passed, {} failed", tally.passed, tally.failed);
     ExitCode::from(u8::from(tally.failed != 0))
@@ -96,26 +98,23 @@ impl Tally {
 
     /// A program that is not built must not pass for one that was compared.
     fn run_program(&mut self, wanted: &Wanted) {
-        match presence() {
-            Presence::Built => self.run(wanted, groups::on_program()),
-            Presence::NotBuilt => self.add(
-                false,
-                "FAILED: program: target/bin/permits is missing; `rt check permits` makes it",
-            ),
-            Presence::NoCrate => {
-                println!("left: program: there is no crates/permits yet, so nothing was compared")
-            }
+        let groups = groups::on_program();
+        if program::is_built() {
+            self.run(wanted, groups);
+        } else if groups.iter().any(|group| wanted.has(group)) {
+            println!("target/bin/permits is missing; `rt check permits` makes it");
+            self.add(false, "FAILED: program: nothing was compared");
         }
     }
 
     /// How often each number was seen. The gate must see all of them; a run of
     /// some seeds or groups need not.
     fn report_counts(&mut self, wanted: &Wanted) {
-        let program = matches!(presence(), Presence::Built);
-        for entry in ENTRIES.iter().filter(|entry| program || entry.name != PROGRAM) {
+        for entry in &ENTRIES {
             let line = self.counts.line(entry);
             let unseen = self.counts.unseen(entry);
             match (wanted.count, unseen.is_empty()) {
+                (Some(_), _) if unseen.len() == entry.numbers.len() => (),
                 (Some(_), _) => println!("seen: {line}"),
                 (None, true) => self.add(true, &format!("passed: every number seen: {line}")),
                 (None, false) => {

@@ -17,9 +17,6 @@ use std::time::Duration;
 /// Where `rt check permits` puts the program, seen from the repository.
 const PROGRAM_FILE: &str = "target/bin/permits";
 
-/// Where its source is.
-const CRATE: &str = "crates/permits";
-
 /// Input is given byte by byte up to this length, or at one of `SIZES`.
 const BYTE_BY_BYTE: usize = 6000;
 
@@ -28,19 +25,9 @@ const BYTE_BY_BYTE: usize = 6000;
 const SIZES: [usize; 16] =
     [0, 1, 2, 21, 22, 23, 24, 25, 131, 132, 133, 137, 65_535, 65_536, 65_537, 131_072];
 
-/// Whether the program can be compared.
-pub enum Presence {
-    Built,
-    NotBuilt,
-    NoCrate,
-}
-
-pub fn presence() -> Presence {
-    match (Path::new(PROGRAM_FILE).exists(), Path::new(CRATE).exists()) {
-        (true, _) => Presence::Built,
-        (false, true) => Presence::NotBuilt,
-        (false, false) => Presence::NoCrate,
-    }
+/// Whether there is a program to compare.
+pub fn is_built() -> bool {
+    Path::new(PROGRAM_FILE).exists()
 }
 
 /// How the input reaches the program.
