@@ -1,6 +1,7 @@
-/* The permit monitor for a panel or a console in C (C11) or C++ (C++11): the batch call, opening, the four calls and the queue.
+/* The permit monitor for a panel or a console in C (C11) or C++ (C++11): the batch call, the section call, opening, the four calls and the
+ * queue.
  *
- * A panel links libpanel.a and calls permits_batch. A console links libconsole.a, keeps a record, opens it with a plant file and makes its
+ * A panel links libpanel.a and calls permits_batch and permits_section. A console links libconsole.a, keeps a record, opens it with a plant file and makes its
  * calls on it. `rt staticlib panel` and `rt staticlib console` write the archives to target/staticlib/.
  *
  * Any bytes can be handed over, as a file, as requests and as a record: every input has its answer, and no function reads or writes
@@ -67,6 +68,16 @@ enum permits_kind { PERMITS_SET = 0, PERMITS_START = 1, PERMITS_STOP = 2, PERMIT
 /* The rights. */
 enum permits_right { PERMITS_DRAW = 0, PERMITS_RETURN = 1, PERMITS_SAMPLE = 2 };
 
+/* The sections of a plant file, in the header's order. */
+enum permits_section_kind {
+    PERMITS_LATTICES = 0,
+    PERMITS_REQUIREMENTS = 1,
+    PERMITS_GROUPS = 2,
+    PERMITS_TANKS = 3,
+    PERMITS_TASKS = 4,
+    PERMITS_SKIDS = 5
+};
+
 /* In a monitor: a level that is unset, no running task, no chosen tank. */
 enum { PERMITS_NONE = 255 };
 
@@ -109,6 +120,12 @@ typedef struct permits_request {
     uint8_t d;
 } permits_request;
 
+/* A part of the caller's bytes: the index of its first byte, and how many bytes it has. */
+typedef struct permits_place {
+    size_t begin;
+    size_t length;
+} permits_place;
+
 /* The archives were compiled for these sizes and places. */
 static_assert(sizeof(permits_plant) == 574, "size of a plant");
 static_assert(offsetof(permits_plant, sizes) == 6, "place of sizes");
@@ -125,11 +142,17 @@ static_assert(offsetof(permits_monitor, levels) == 574, "place of levels");
 static_assert(offsetof(permits_monitor, running) == 1598, "place of running");
 static_assert(offsetof(permits_monitor, chosen) == 1606, "place of chosen");
 static_assert(sizeof(permits_request) == 5, "size of a request");
+static_assert(sizeof(permits_place) == 16, "size of a place");
+static_assert(offsetof(permits_place, length) == 8, "place of length");
 
 /* Batch, in libpanel.a: opens the plant and makes the requests, five bytes each, beginning at the fresh monitor. Returns 1 to 12, 34, 31
  * or 0, in this order. With 0 and n requests, out[i] is the answer to request i and out[n] the count of rights held; from out[n + 1] on
  * stand skid, tank and right of each of them, rising in that order. The rest of out is not written. */
 uint8_t permits_batch(const uint8_t *plant, size_t plant_len, const uint8_t *requests, size_t requests_len, uint8_t *out, size_t out_len);
+
+/* Section, in libpanel.a: the part of the caller's bytes that the section of this kind fills. A file failing 1 to 6, or a kind over 5, gives an
+ * empty part, at 0. A file that opening refuses with 7 to 12 has its sections. */
+permits_place permits_section(const uint8_t *file, size_t file_len, size_t kind);
 
 /* Opening: 0 and the fresh monitor in *m, or 1 to 12 and a record of zeros. What *m held before does not matter. */
 uint8_t permits_open(permits_monitor *m, const uint8_t *file, size_t file_len);

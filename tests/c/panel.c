@@ -1,4 +1,4 @@
-/* The panel's batch call on bad input, on buffers that just fit and just don't, and on 01's session. */
+/* The panel's batch call on bad input, on buffers that just fit and just don't, and on 01's session; and the section call. */
 #include "check.h"
 #include "permits.h"
 #include "plants.h"
@@ -117,11 +117,44 @@ static void every_right(void)
     gives("every right held, one byte short", 31, full_plant, sizeof full_plant, calls, sizeof calls, list, 0, sizeof list - 1);
 }
 
+/* The section of this kind, or an empty part at 0; the file is between guard bytes. */
+static void place_is(const char *what, const uint8_t *file, size_t file_len, size_t kind, size_t begin, size_t length)
+{
+    uint8_t *f = guarded_copy(file, file_len);
+    permits_place p = permits_section(f, file_len, kind);
+    check(p.begin == begin && p.length == length, "%s, section %zu: %zu bytes from %zu, and should be %zu from %zu", what, kind, p.length,
+        p.begin, length, begin);
+    check(untouched(f, file, file_len), "%s, section %zu: the file stays as it was", what, kind);
+    release(f);
+}
+
+static void sections(void)
+{
+    static const size_t begin[6] = {24, 92, 96, 100, 108, 128};
+    static const size_t length[6] = {68, 4, 4, 8, 20, 4};
+    static const size_t others[] = {6, 7, 255, 256, 65536, SIZE_MAX - 1, SIZE_MAX};
+    uint8_t file[sizeof plant];
+
+    for (size_t kind = PERMITS_LATTICES; kind <= PERMITS_SKIDS; kind++) {
+        place_is("01's plant", plant, sizeof plant, kind, begin[kind], length[kind]);
+        place_is("no bytes", plant, 0, kind, 0, 0);
+        place_is("a plant that lacks its last byte", plant, sizeof plant - 1, kind, 0, 0);
+        for (unsigned i = 0; i < BROKEN; i++) {
+            int placed = broken_plants[i].number > 6;
+            break_plant(&broken_plants[i], file);
+            place_is(broken_plants[i].what, file, sizeof file, kind, placed ? begin[kind] : 0, placed ? length[kind] : 0);
+        }
+    }
+    for (size_t i = 0; i < sizeof others / sizeof others[0]; i++)
+        place_is("another kind", plant, sizeof plant, others[i], 0, 0);
+}
+
 int main(void)
 {
     plants();
     requests();
     buffers();
     every_right();
+    sections();
     return report();
 }
