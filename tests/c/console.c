@@ -163,11 +163,24 @@ static void arguments(void)
     for (unsigned kind = 4; kind < 256; kind++)
         call_gives("a call of unknown kind", 32, &m, (permits_request){(uint8_t)kind, 0, 0, 0, 0});
 
-    /* an unset level of one group comes before another group without a tank under its level */
     check(permits_set(&m, 0, 0, 1, 0) == 0, "level 0 for requirement 1");
-    call_gives("a level unset and a tank lacking", 27, &m, (permits_request){PERMITS_START, 0, 0, 0, 0});
     check(permits_set(&m, 0, 0, 0, 1) == 0, "level 1 for requirement 0");
     call_gives("a tank lacking", 28, &m, (permits_request){PERMITS_START, 0, 0, 0, 0});
+}
+
+/* An unset level of a later group comes before an earlier group without a tank under its level: 01's plant with tank 0 at level 1. */
+static void unset_before_lacking(void)
+{
+    uint8_t file[sizeof plant];
+    permits_monitor m;
+
+    memcpy(file, plant, sizeof plant);
+    file[101] = 1;
+    check(permits_open(&m, file, sizeof file) == 0, "tank 0 at level 1");
+    check(permits_set(&m, 0, 0, 0, 0) == 0, "level 0 for requirement 0");
+    call_gives("group 0 lacks a tank, group 1 has no level", 27, &m, (permits_request){PERMITS_START, 0, 0, 0, 0});
+    check(permits_set(&m, 0, 0, 1, 3) == 0, "level 3 for requirement 1");
+    call_gives("group 0 lacks a tank", 28, &m, (permits_request){PERMITS_START, 0, 0, 0, 0});
 }
 
 static void queues(void)
@@ -231,6 +244,7 @@ int main(void)
     records();
     openings();
     arguments();
+    unset_before_lacking();
     queues();
     queue_as_calls();
     every_right();

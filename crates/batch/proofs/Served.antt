@@ -6,7 +6,9 @@ use native.Mathlib.Numerals.{add-one}
 use native.Mathlib.Omega.{arith}
 use mathlib.Core.Bool.{Bool, true}
 use mathlib.Core.List.{List, [], _∷_, _++_}
-use lib.ListN.{length, set, length-append, replicate}
+use native.Mathlib.Decide.{ℕ-discrete}
+use lib.ListN.{length, set, getD, length-append, replicate, List·getD-append}
+use lib.Seq.{getD-append-seam}
 use Rattle.base.specs.Overlay.{overlay}
 use Rattle.base.proofs.Overlaid.{overlay-none, overlay-more}
 use Rattle.plant.specs.declared.Plant.{Plant}
@@ -41,6 +43,17 @@ pub calls-length : (bytes : List ℕ) (n : ℕ) → length (callsOf bytes n) ≡
 unfolding callsOf
 calls-length bytes zero = refl
 calls-length bytes (suc n) = omega (arith, length-append (callsOf bytes n) (callAt bytes n ∷ []), calls-length bytes n)
+
+-- call i is request i
+pub calls-at : (bytes : List ℕ) (n i : ℕ) (d : Call) → i < n → getD (callsOf bytes n) i d ≡ callAt bytes i
+unfolding callsOf
+calls-at bytes zero i d l = absurd (omega arith)
+calls-at bytes (suc n) i d l = elim (ℕ-discrete i n) [
+  | yes e ↦
+      ap (λ (k : ℕ). getD (callsOf bytes n ++ (callAt bytes n ∷ [])) k d) (let f : i ≡ length (callsOf bytes n) = e ∙ sym (calls-length bytes n) in f)
+      ∙ getD-append-seam (callsOf bytes n) (callAt bytes n) [] d ∙ ap (callAt bytes) (sym e)
+  | no e ↦ List·getD-append (callsOf bytes n) (callAt bytes n ∷ []) d i (omega (arith, calls-length bytes n)) ∙ calls-at bytes n i d (omega arith)
+]
 
 pub calls-more : (bytes : List ℕ) (n : ℕ) → callsOf bytes (n + 1) ≡ callsOf bytes n ++ (callAt bytes n ∷ [])
 unfolding callsOf

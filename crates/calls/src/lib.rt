@@ -401,7 +401,7 @@ fn start_at<'a>(
     0
 }
 
-// One request of any kind: 0 set, 1 start, 2 stop, 3 gate, and 32 for another. Whoever makes a list of requests lends `made` to all of them.
+// One request of any kind: 0 set, 1 start, 2 stop, 3 gate, and 32 for another. `made` has the choices of earlier requests, where the caller keeps them.
 pub fn turn<'a>(
     sizes: &'a [u8; 8],
     sets: &'a [u16; 128],

@@ -19,8 +19,11 @@ use Rattle.base.specs.Overlay.{overlay}
 use Rattle.batch.specs.Requests.{callsOf}
 use Rattle.held.specs.Held.{rightsHeld, rightBytes}
 use Rattle.panel.specs.Batch.{batchRefusal, outcome, batchOut}
-use Rattle.cases.specs.Cases.{session, crossed, crossedCalls, requests, requestBytes, threeTanks, sameList, right, cases, every}
+use Rattle.printing.specs.Decimal.{digitsIn, decimal}
+use Rattle.printing.specs.Text.{outcomeLines}
+use Rattle.printing.specs.Printed.{batchLines, printed}
+use Rattle.cases.specs.Cases.{session, crossed, crossedCalls, requests, requestBytes, renumbered, bothSkids, raised, threeTanks, sameList, right, cases, every}
 
 pub all-right : every cases ≡ true
-unfolding allBelow anyBelow firstBelow noneFrom fill levels.layout levels.reflexive levels.antisymmetric levels.transitive levels.ordered levels.joined levels.complete levels.refusal place zerosAt lengthOk editionOk countOk countsOk zerosOk inside allInside apart allApart placingRefusal countsIn latticeFails numbersOk levelsDistinct requirementsNamed plantRefusal latticeZeros otherZeros openingRefusal readingOf fits tankLe tankEq serves above nearest served choice blankAt blank lacking holds conditions refusal granted answer pickFor levelOk taskOk tankOk intactView fresh fillFrom viewOf changed stepped intact reply after replies final levelIn startIn past note due dues history collect overlay callsOf rightsHeld rightBytes batchRefusal outcome batchOut session crossed crossedCalls requests requestBytes threeTanks sameList right cases every
+unfolding allBelow anyBelow firstBelow noneFrom fill levels.layout levels.reflexive levels.antisymmetric levels.transitive levels.ordered levels.joined levels.complete levels.refusal place zerosAt lengthOk editionOk countOk countsOk zerosOk inside allInside apart allApart placingRefusal countsIn latticeFails numbersOk levelsDistinct requirementsNamed plantRefusal latticeZeros otherZeros openingRefusal readingOf fits tankLe tankEq serves above nearest served choice blankAt blank lacking holds conditions refusal granted answer pickFor levelOk taskOk tankOk intactView fresh fillFrom viewOf changed stepped intact reply after replies final levelIn startIn past note due dues history collect overlay callsOf rightsHeld rightBytes batchRefusal outcome batchOut digitsIn decimal outcomeLines batchLines printed session crossed crossedCalls requests requestBytes renumbered bothSkids raised threeTanks sameList right cases every
 all-right = refl

@@ -1,6 +1,7 @@
--- The worked cases of the paper, P1 to P10, and three by its rules, each with its answer, as one list. The session's two go through the calls and
--- through the batch.
+-- The worked cases of the paper, P1 to P10, and more by its rules, each with its answer, as one list. The session's two go through the calls,
+-- through the batch and through what the program prints.
 use Prim.Native.Nat.{ℕ, zero, suc, _+_, _-_}
+use Prim.Native.String.{String}
 use mathlib.Core.Bool.{Bool, true, false, cond, _&&_}
 use mathlib.Core.List.{List, [], _∷_, _++_}
 use lib.Dec.{eqb}
@@ -17,6 +18,8 @@ use Rattle.rules.specs.Record.{viewOf, replies, final}
 use Rattle.monitor.specs.Calls.{openedOf}
 use Rattle.held.specs.Held.{rightsHeld, rightBytes}
 use Rattle.panel.specs.Batch.{requestCount, batchRefusal, batchOut}
+use Rattle.printing.specs.Text.{codes}
+use Rattle.printing.specs.Printed.{printed}
 
 pub data Case : Type 0 where
   -- a lattice record with these sets, one for each level, and the number that refuses it, or 0
@@ -29,6 +32,8 @@ pub data Case : Type 0 where
   held : List ℕ → List Call → List ℕ → Case
   -- a plant file, request bytes and the bytes that the batch writes
   batch : List ℕ → List ℕ → List ℕ → Case
+  -- the program's input, and the text that it prints
+  prints : List ℕ → String → Case
   -- the tank chosen from group 0 of a plant for a level
   chosen : Plant → ℕ → ℕ → Case
 
@@ -66,6 +71,26 @@ crossedCalls = set 0 0 0 3 ∷ set 0 0 1 3 ∷ set 0 0 0 1 ∷ set 0 0 1 2 ∷ s
 
 unfoldable pub requests : List Call
 requests = start 0 0 ∷ set 0 0 0 1 ∷ set 0 0 1 3 ∷ start 0 0 ∷ gate 0 0 0 ∷ set 0 0 0 2 ∷ gate 0 1 0 ∷ start 0 1 ∷ stop 1 ∷ start 1 0 ∷ []
+
+-- The same plant with its tanks renumbered, group 1's first: a skid's rights in the order of its groups, or by right before tank, would stand
+-- in another order than by tank.
+unfoldable pub renumbered : List ℕ
+renumbered = ListN.set (ListN.set (ListN.set (ListN.set (ListN.set (ListN.set (ListN.set (ListN.set session 100 1) 101 1) 102 1) 103 2) 104 0) 105 0) 106 0) 107 2
+
+-- Both skids run, between them a request of no known kind: skid 0 task 0 on group 1 and group 0, skid 1 task 1, which returns to group 0.
+unfoldable pub bothSkids : List ℕ
+bothSkids =
+    0 ∷ 1 ∷ 1 ∷ 0 ∷ 2
+    ∷ 1 ∷ 1 ∷ 1 ∷ 0 ∷ 0
+    ∷ 9 ∷ 0 ∷ 0 ∷ 0 ∷ 0
+    ∷ 0 ∷ 0 ∷ 0 ∷ 0 ∷ 1
+    ∷ 0 ∷ 0 ∷ 0 ∷ 1 ∷ 3
+    ∷ 1 ∷ 0 ∷ 0 ∷ 0 ∷ 0
+    ∷ []
+
+-- The same plant with tank 0 at level 1, so that group 0 can lack a tank while group 1's level is unset.
+unfoldable pub raised : List ℕ
+raised = ListN.set session 101 1
 
 -- the session's lattice 0 with three tanks at levels 0, 1 and 2 of one group
 unfoldable pub threeTanks : Plant
@@ -123,6 +148,7 @@ right (held file calls triples) = sameList (rightBytes (rightsHeld (readingOf fi
 right (batch file requests bytes) =
     eqb (batchRefusal file requests (length (buffer requests))) 0
     && sameList (batchOut file requests (buffer requests)) (bytes ++ replicate (length (buffer requests) - length bytes) 170)
+right (prints input text) = sameList (printed input) (codes text)
 right (chosen P v o) = eqb (choice P 0 (λ d. v)) o
 
 unfoldable pub cases : List Case
@@ -133,6 +159,8 @@ cases =
     ∷ held session requests (0 ∷ 0 ∷ 0 ∷ 0 ∷ 2 ∷ 0 ∷ 0 ∷ 2 ∷ 2 ∷ [])
     -- the same two by the batch: the answers, the count, and the rights
     ∷ batch session requestBytes (27 ∷ 0 ∷ 0 ∷ 0 ∷ 0 ∷ 0 ∷ 33 ∷ 26 ∷ 0 ∷ 25 ∷ 3 ∷ 0 ∷ 0 ∷ 0 ∷ 0 ∷ 2 ∷ 0 ∷ 0 ∷ 2 ∷ 2 ∷ [])
+    -- and as the program prints them
+    ∷ prints (session ++ requestBytes) "1 27\n2 0\n3 0\n4 0\n5 0\n6 0\n7 33\n8 26\n9 0\n10 25\nheld 3\n0 0 0\n0 2 0\n0 2 2\n"
     -- P3 to P8
     ∷ lattice (1 ∷ []) 0
     ∷ lattice (0 ∷ []) 8
@@ -146,6 +174,13 @@ cases =
     ∷ chosen threeTanks 1 1
     -- in lattice 1 level 1 is not at or under level 2, though its number is lower: under 2 the tank at 2 is chosen, and not the one at 1
     ∷ answers session (set 0 0 0 0 ∷ set 0 0 1 2 ∷ start 0 0 ∷ gate 0 3 0 ∷ gate 0 2 0 ∷ []) (0 ∷ 0 ∷ 0 ∷ 0 ∷ 33 ∷ [])
+    -- 27 of group 1 decides before 28 of group 0
+    ∷ answers raised (set 0 0 0 0 ∷ start 0 0 ∷ set 0 0 1 3 ∷ start 0 0 ∷ []) (0 ∷ 27 ∷ 0 ∷ 28 ∷ [])
+    -- the order of the list of rights, over two skids; tank 0 is of group 1 and tank 2 of group 0
+    ∷ batch renumbered bothSkids (0 ∷ 0 ∷ 32 ∷ 0 ∷ 0 ∷ 0 ∷ 4 ∷ 0 ∷ 0 ∷ 0 ∷ 0 ∷ 0 ∷ 2 ∷ 0 ∷ 2 ∷ 0 ∷ 1 ∷ 3 ∷ 1 ∷ [])
+    -- the longest input that is taken, and one byte more
+    ∷ prints (replicate 65536 0) "plant 1\n"
+    ∷ prints (replicate 65537 0) "long\n"
     -- requirement 0 in lattice 1 and requirement 1 in lattice 0: level 3 is one of the first and none of the second; under 1 of the first
     -- tank 1 at level 2 is not at or under, and under 2 of the second tank 3 at level 2 is
     ∷ opening crossed 0

@@ -5,7 +5,7 @@ use Prim.Native.Nat.{ℕ, zero, suc, _+_, _*_, _/_, _≤_, _<_}
 use mathlib.Core.Bool.{Bool, true, false, cond}
 use mathlib.Core.List.{List, [], _∷_, _++_, List·Memᴰ·head, List·Memᴰ·not-nil, List·Memᴰ·eq-of-singleton}
 use native.Mathlib.Omega.{arith}
-use lib.ListN.{length}
+use lib.ListN.{length, getD}
 use Rattle.base.specs.Collect.{collect}
 use Rattle.base.specs.Rising.{In, Rising}
 use Rattle.base.proofs.Logic.{split, true-false}
@@ -132,6 +132,16 @@ pub bytes-length : (l : List HeldRight) → length (rightBytes l) ≡ length l *
 unfolding rightBytes
 bytes-length [] = refl
 bytes-length (h ∷ l) = omega (arith, bytes-length l)
+
+-- the three bytes of entry i
+pub bytes-at : (l : List HeldRight) (d : HeldRight) (i : ℕ) → i < length l → (getD (rightBytes l) (i * 3) 0 ≡ getD l i d .skid) × ((getD (rightBytes l) (i * 3 + 1) 0 ≡ getD l i d .tank) × (getD (rightBytes l) (i * 3 + 2) 0 ≡ getD l i d .right))
+unfolding rightBytes
+bytes-at [] d i h = absurd (omega arith)
+bytes-at (x ∷ l) d zero h = (refl, (refl, refl))
+bytes-at (x ∷ l) d (suc i) h =
+    let r = bytes-at l d i (omega arith) in
+    let at : (k j : ℕ) → k ≡ suc (suc (suc j)) → getD (rightBytes (x ∷ l)) k 0 ≡ getD (rightBytes l) j 0 = λ k j e. ap (λ (n : ℕ). getD (rightBytes (x ∷ l)) n 0) e in
+    (at (suc i * 3) (i * 3) (omega arith) ∙ r .0, (at (suc i * 3 + 1) (i * 3 + 1) (omega arith) ∙ r .1 .0, at (suc i * 3 + 2) (i * 3 + 2) (omega arith) ∙ r .1 .1))
 
 -- On a record that passes test 20 the writer's list is the listing of the rights that its views hold.
 module _ (m : Monitor) (i : intact (m .plant) m ≡ true) where

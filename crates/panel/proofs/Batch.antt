@@ -5,14 +5,9 @@ use Prim.Native.Nat.{ℕ, suc, _+_, _-_, _*_, _/_, _%_, _≤_, _<_}
 use mathlib.Core.Bool.{Bool, true, false, cond, not}
 use mathlib.Core.List.{List, [], _∷_, _++_}
 use native.Mathlib.Omega.{arith}
-use lib.Dec.{eqb, ltb}
 use lib.ListN.{length, getD, length-append, List·getD-append}
 use lib.Seq.{getD-append-add}
-use borrow.Author.Tests.{eqb-true, eqb-false, ltb-false, not-false}
-use Rattle.base.specs.Chain.{first}
 use Rattle.base.specs.Overlay.{overlay}
-use Rattle.base.proofs.Logic.{split}
-use Rattle.base.proofs.Chain.{clear}
 use Rattle.base.proofs.Overlaid.{overlay-at, overlay-past, overlay-length}
 use Rattle.plant.specs.declared.Plant.{Plant}
 use Rattle.plant.specs.Checks.{plantRefusal, Sound}
@@ -20,7 +15,7 @@ use Rattle.reader.specs.Reading.{readingOf}
 use Rattle.reader.specs.Admitted.{Admitted}
 use Rattle.reader.proofs.Opening.{opens}
 use Rattle.rules.specs.declared.Monitor.{Monitor}
-use Rattle.rules.specs.Rules.{Call, gate, answer}
+use Rattle.rules.specs.Rules.{Call, gate, unknown, answer}
 use Rattle.rules.specs.Record.{fresh, reply, replies, final, viewOf, intact}
 use Rattle.rules.specs.History.{dues, history, past}
 use Rattle.rules.specs.Rights.{Gives}
@@ -29,13 +24,13 @@ use Rattle.rules.proofs.Demand.{demand3}
 use Rattle.rules.proofs.Accepted.{GateOk, gate-zero}
 use Rattle.rules.proofs.Agree.{fresh-agree, list-agree}
 use Rattle.rules.specs.Run.{runs}
-use Rattle.batch.proofs.Served.{runs-length, calls-length}
+use Rattle.batch.proofs.Served.{runs-length, calls-length, calls-at}
 use Rattle.held.specs.Held.{HeldRight, Lists, rightsHeld, rightBytes, listing}
-use Rattle.held.proofs.Listed.{HeldIn, lists-same, rights-listed, bytes-length, held-at-most}
-use Rattle.panel.specs.Batch.{requestCount, requestChecks, batchRefusal, outcome, batchCalls, batchOut}
-use Rattle.panel.specs.Served.{Admits, P, calls, held, Served, Batch}
+use Rattle.held.proofs.Listed.{HeldIn, lists-same, rights-listed, bytes-length, bytes-at, held-at-most}
+use Rattle.panel.specs.Batch.{requestCount, refusalBy, batchRefusal, outcome, batchCalls, batchOut}
+use Rattle.panel.specs.Served.{Admits, none, P, calls, held, Served, Batch}
 use Rattle.panel.proofs.Outcome.{same-answers, same-rights}
-use Rattle.panel.proofs.Refused.{refusal-is, unwritten, by-plant, by-requests, by-room, by-none, plant-passes}
+use Rattle.panel.proofs.Refused.{refusal-is, unwritten, by-opening, by-requests, by-room, by-none, accepts, plant-passes}
 
 -- The rights at the end of a list from the fresh monitor are those that its history gives.
 module _ (P : Plant) (q : plantRefusal true true P ≡ 0) (W : Sound P) (cs : List Call) where
@@ -85,6 +80,9 @@ module _ (answers : List ℕ) (l : List HeldRight) (out : List ℕ) (n : ℕ) (a
       ap (λ (k : ℕ). getD (overlay out 0 ws) k 0) (let e : n + i ≡ 0 + (length answers + i) = omega (arith, a) in e)
       ∙ overlay-at out 0 ws (length answers + i) (omega arith) (omega (arith, size)) ∙ getD-append-add answers (listing l) i 0
 
+  at-right : (k j : ℕ) → k ≡ suc j → j < length l * 3 → getD (overlay out 0 ws) (n + k) 0 ≡ getD (rightBytes l) j 0
+  at-right k j e h = at-listing k (omega arith) ∙ ap (λ (x : ℕ). getD (listing l) x 0) e
+
   at-rest : (i : ℕ) → n + (1 + length l * 3) ≤ i → getD (overlay out 0 ws) i 0 ≡ getD out i 0
   at-rest i h = overlay-past out 0 ws i (omega arith) (omega (arith, size))
 
@@ -98,23 +96,20 @@ module _ (plant requests out : List ℕ) where
   opened : readingOf plant .answer ≡ 0 → Admitted plant
   opened z = opens plant .accepts .0 z
 
-  -- what 0 says
+  -- the number as it is made of opening's
+  made : batchRefusal plant requests (length out) ≡ refusalBy (readingOf plant .answer) (length requests) (length out)
+  made = refusal-is plant requests (length out)
+
   admits : batchRefusal plant requests (length out) ≡ 0 → Admits plant requests out
-  admits e = split (eqb (readingOf plant .answer) 0)
-      (λ y.
-      let c = clear (requestChecks requests (length out)) (refl, (refl, tt)) (subst (λ (b : Bool). cond b (first (requestChecks requests (length out))) (readingOf plant .answer) ≡ 0) y (sym (refusal-is plant requests (length out)) ∙ e)) in
-      record {
-        plant-admitted = opened (eqb-true _ 0 y);
-        whole-requests = omega (arith, eqb-true (length requests % 5) 0 (not-false _ (c .0)));
-        room = omega (arith, ltb-false (length out) (n + 577) (c .1 .0));
-      })
-      (λ y. absurd (eqb-false _ 0 y (subst (λ (b : Bool). cond b (first (requestChecks requests (length out))) (readingOf plant .answer) ≡ 0) y (sym (refusal-is plant requests (length out)) ∙ e))))
+  admits e =
+      let c = accepts (readingOf plant .answer) (length requests) (length out) made e in
+      record { plant-admitted = opened (c .opened); whole-requests = omega (arith, c .whole); room = c .room-enough }
 
   zero : Admitted plant → readingOf plant .answer ≡ 0
   zero A = opens plant .accepts .1 A
 
   accepted : Admits plant requests out → batchRefusal plant requests (length out) ≡ 0
-  accepted A = sym (by-none plant requests refl (length out) (zero (A .plant-admitted)) (omega (arith, A .whole-requests)) (A .room))
+  accepted A = made ∙ sym (by-none _ (length requests) (length out) (zero (A .plant-admitted)) (omega (arith, A .whole-requests)) (A .room))
 
   bytes : batchRefusal plant requests (length out) ≡ 0 → batchOut plant requests out ≡ overlay out 0 (dues (P plant requests out) [] (calls plant requests out) ++ listing (held plant requests out))
   unfolding batchOut outcome
@@ -133,14 +128,17 @@ module _ (plant requests out : List ℕ) where
       let r : n + (1 + length l * 3) ≤ length out = omega (arith, A .room) in
       let at : (i j : ℕ) → i ≡ j → getD (batchOut plant requests out) i 0 ≡ getD (overlay out 0 (dues p [] cs ++ listing l)) j 0 = λ i j f. ap₂ (λ (x : List ℕ) (k : ℕ). getD x k 0) (bytes e) f in
       record {
-        demand = demand3 p W cs;
         as-many = calls-length requests n;
+        in-order = λ i h. calls-at requests n i unknown h;
+        demand = demand3 p W cs;
         answers = λ i h. at i i refl ∙ at-answer (dues p [] cs) l out n a r i h;
         rights = listed-gives p q W cs;
         gates = listed-gates p q W cs;
         at-most = s;
         count = at n (n + 0) (let f : n ≡ n + 0 = omega arith in f) ∙ at-listing (dues p [] cs) l out n a r 0 (omega arith);
-        triples = λ i h. at (n + (1 + i)) (n + (1 + i)) refl ∙ at-listing (dues p [] cs) l out n a r (1 + i) (omega arith) ∙ ap (λ (k : ℕ). getD (listing l) k 0) (let f : 1 + i ≡ suc i = omega arith in f);
+        skids = λ i h. at (n + (1 + i * 3)) (n + (1 + i * 3)) refl ∙ at-right (dues p [] cs) l out n a r (1 + i * 3) (i * 3) (omega arith) (omega arith) ∙ bytes-at l none i h .0;
+        tanks = λ i h. at (n + (2 + i * 3)) (n + (2 + i * 3)) refl ∙ at-right (dues p [] cs) l out n a r (2 + i * 3) (i * 3 + 1) (omega arith) (omega arith) ∙ bytes-at l none i h .1 .0;
+        right-numbers = λ i h. at (n + (3 + i * 3)) (n + (3 + i * 3)) refl ∙ at-right (dues p [] cs) l out n a r (3 + i * 3) (i * 3 + 2) (omega arith) (omega arith) ∙ bytes-at l none i h .1 .1;
         as-long = ap length (bytes e) ∙ kept-length (dues p [] cs) l out n a r;
         rest = λ i h. at i i refl ∙ at-rest (dues p [] cs) l out n a r i h;
       }
@@ -150,7 +148,7 @@ module _ (plant requests out : List ℕ) where
     accepts = (admits, accepted);
     served = served;
     unwritten = λ k. sym (unwritten plant requests out refl k .1);
-    plant-first = λ k h b. let e = opens plant .refuses k h .1 b in sym (by-plant plant requests refl (length out) (λ z. omega (arith, z, e))) ∙ e;
-    then-34 = λ A w. sym (by-requests plant requests refl (length out) (zero A) (λ z. w (omega (arith, z))));
-    then-31 = λ A w l. sym (by-room plant requests refl (length out) (zero A) (omega (arith, w)) l);
+    plant-first = λ k h b. let e = opens plant .refuses k h .1 b in made ∙ sym (by-opening _ (length requests) (length out) (λ z. omega (arith, z, e))) ∙ e;
+    then-34 = λ A w. made ∙ sym (by-requests _ (length requests) (length out) (zero A) (λ z. w (omega (arith, z))));
+    then-31 = λ A w l. made ∙ sym (by-room _ (length requests) (length out) (zero A) (omega (arith, w)) l);
   }

@@ -1,5 +1,5 @@
 -- The number that refuses a batch, test by test, and the buffer that goes with it. Assumes nothing.
-use mathlib.Core.Path.{_≡_, refl, sym, ap, _∙_}
+use mathlib.Core.Path.{_≡_, refl, sym, ap, subst, _∙_}
 use mathlib.Core.Logic.{_≢_}
 use Prim.Native.Nat.{ℕ, _+_, _/_, _%_, _≤_, _<_}
 use mathlib.Core.Bool.{Bool, true, false, cond, not}
@@ -7,16 +7,17 @@ use mathlib.Core.List.{List, [], _∷_}
 use native.Mathlib.Omega.{arith}
 use lib.Dec.{eqb, ltb}
 use lib.ListN.{length}
-use borrow.Author.Tests.{eq-eqb, ne-eqb, lt-ltb, le-ltb}
+use borrow.Author.Tests.{eqb-true, eqb-false, ne-eqb, lt-ltb, le-ltb, ltb-false, not-false}
 use Rattle.base.specs.Chain.{first}
 use Rattle.base.specs.Overlay.{overlay}
-use Rattle.base.proofs.Chain.{first-append}
+use Rattle.base.proofs.Logic.{split}
+use Rattle.base.proofs.Chain.{first-append, clear}
 use Rattle.reader.specs.declared.Reading.{Reading}
 use Rattle.reader.specs.Reading.{openingChecks, openingRefusal, readingOf}
 use Rattle.plant.specs.Checks.{plantRefusal}
 use Rattle.plant.proofs.Sound.{sound-law}
 use Rattle.reader.proofs.Opening.{opens}
-use Rattle.panel.specs.Batch.{requestCount, requestChecks, batchRefusal, outcome, batchCalls, batchOut}
+use Rattle.panel.specs.Batch.{requestCount, sizeChecks, requestChecks, refusalBy, batchRefusal, outcome, batchCalls, batchOut}
 
 module _ (plant requests : List ℕ) where
   -- opening decides first
@@ -34,20 +35,38 @@ module _ (plant requests : List ℕ) where
     unfolding batchOut
     written e h = (e, h ∙ rw (← e))
 
-  -- r is what the reader returned
+  -- r is what the reader returned, and k the number made of it
   module _ {r : Reading} (e : r ≡ readingOf plant) (room : ℕ) where
-    pub by-plant : r .answer ≢ 0 → r .answer ≡ batchRefusal plant requests room
-    by-plant n = sym (refusal-is room ∙ rw (← e, ne-eqb (r .answer) 0 n))
+    pub refusal-by : {k : ℕ} → k ≡ refusalBy (r .answer) (length requests) room → k ≡ batchRefusal plant requests room
+    refusal-by h = h ∙ ap (λ (x : Reading). refusalBy (x .answer) (length requests) room) e ∙ sym (refusal-is room)
 
-    module _ (z : r .answer ≡ 0) where
-      pub by-requests : length requests % 5 ≢ 0 → 34 ≡ batchRefusal plant requests room
-      by-requests n = sym (refusal-is room ∙ rw (← e, z, ne-eqb (length requests % 5) 0 n))
+-- each test of the number
+module _ (opening bytes room : ℕ) where
+  pub by-opening : opening ≢ 0 → opening ≡ refusalBy opening bytes room
+  by-opening n = rw (ne-eqb opening 0 n)
 
-      pub by-room : length requests % 5 ≡ 0 → room < requestCount requests + 577 → 31 ≡ batchRefusal plant requests room
-      by-room w l = sym (refusal-is room ∙ rw (← e, z, w, lt-ltb room (requestCount requests + 577) l))
+  module _ (z : opening ≡ 0) where
+    pub by-requests : bytes % 5 ≢ 0 → 34 ≡ refusalBy opening bytes room
+    by-requests n = rw (z, ne-eqb (bytes % 5) 0 n)
 
-      pub by-none : length requests % 5 ≡ 0 → requestCount requests + 577 ≤ room → 0 ≡ batchRefusal plant requests room
-      by-none w l = sym (refusal-is room ∙ rw (← e, z, w, le-ltb room (requestCount requests + 577) l))
+    pub by-room : bytes % 5 ≡ 0 → room < bytes / 5 + 577 → 31 ≡ refusalBy opening bytes room
+    by-room w l = rw (z, w, lt-ltb room (bytes / 5 + 577) l)
+
+    pub by-none : bytes % 5 ≡ 0 → bytes / 5 + 577 ≤ room → 0 ≡ refusalBy opening bytes room
+    by-none w l = rw (z, w, le-ltb room (bytes / 5 + 577) l)
+
+-- what 0 says of it
+pub record Accepts (opening bytes room : ℕ) : Type 0 where
+  pub opened : opening ≡ 0
+  pub whole : bytes % 5 ≡ 0
+  pub room-enough : bytes / 5 + 577 ≤ room
+
+pub accepts : (opening bytes room : ℕ) {k : ℕ} → k ≡ refusalBy opening bytes room → k ≡ 0 → Accepts opening bytes room
+accepts opening bytes room {k} e z = split (eqb opening 0)
+    (λ y.
+    let c = clear (sizeChecks bytes room) (refl, (refl, tt)) (subst (λ (b : Bool). cond b (first (sizeChecks bytes room)) opening ≡ 0) y (sym e ∙ z)) in
+    record { opened = eqb-true _ 0 y; whole = eqb-true (bytes % 5) 0 (not-false _ (c .0)); room-enough = omega (arith, ltb-false room (bytes / 5 + 577) (c .1 .0)) })
+    (λ y. absurd (eqb-false _ 0 y (subst (λ (b : Bool). cond b (first (sizeChecks bytes room)) opening ≡ 0) y (sym e ∙ z))))
 
 -- an accepted plant passes what the batch asks of one
 pub plant-passes : (plant : List ℕ) {r : Reading} → r ≡ readingOf plant → r .answer ≡ 0 → plantRefusal true true (r .plant) ≡ 0

@@ -19,12 +19,19 @@ requestCount requests = length requests / 5
 
 -- 34: a request is cut off. 31: the buffer has no room for an answer to each request and for the longest list of rights, 577 bytes, whatever
 -- the list turns out to be; so the panel's room does not depend on what the skids hold.
+abbrev pub sizeChecks : ℕ → ℕ → List Test
+sizeChecks bytes room = not (eqb (bytes % 5) 0) gives 34 ∷ ltb room (bytes / 5 + 577) gives 31 ∷ []
+
 abbrev pub requestChecks : List ℕ → ℕ → List Test
-requestChecks requests room = not (eqb (length requests % 5) 0) gives 34 ∷ ltb room (requestCount requests + 577) gives 31 ∷ []
+requestChecks requests room = sizeChecks (length requests) room
 
 -- opening's numbers first
 unfoldable pub batchRefusal : List ℕ → List ℕ → ℕ → ℕ
 batchRefusal plant requests room = first (openingChecks plant ++ requestChecks requests room)
+
+-- the same from opening's number; proofs/Refused has that it is
+abbrev pub refusalBy : ℕ → ℕ → ℕ → ℕ
+refusalBy opening bytes room = cond (eqb opening 0) (first (sizeChecks bytes room)) opening
 
 -- What a list of calls brings from the fresh monitor: the answers that its history gives, and the rights that it gives at the end.
 unfoldable pub outcome : Plant → List Call → List ℕ

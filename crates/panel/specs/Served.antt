@@ -8,20 +8,24 @@ use Rattle.plant.specs.declared.Plant.{Plant}
 use Rattle.reader.specs.Admitted.{Admitted, rules}
 use Rattle.base.specs.Chain.{Breaks}
 use Rattle.reader.specs.Reading.{readingOf}
-use Rattle.rules.specs.Rules.{Call, gate}
-use Rattle.rules.specs.Record.{fresh, reply, replies, final, viewOf}
+use Rattle.rules.specs.Rules.{Call, gate, unknown}
+use Rattle.rules.specs.Record.{fresh, reply, final}
 use Rattle.rules.specs.History.{dues, history, past}
 use Rattle.rules.specs.Rights.{Gives}
 use Rattle.rules.specs.Demand.{Demand3}
 use Rattle.batch.specs.Requests.{callAt}
-use Rattle.held.specs.Held.{HeldRight, Lists, rightsHeld, rightBytes}
+use Rattle.held.specs.Held.{HeldRight, Lists, rightsHeld}
 use Rattle.panel.specs.Batch.{requestCount, batchRefusal, batchCalls, batchOut}
 
--- the number that refuses a batch, in words: opening's rules, whole requests, room
+-- what an accepted batch keeps: opening's rules, whole requests, room
 pub record Admits (plant requests out : List ℕ) : Type 0 where
   pub plant-admitted : Admitted plant
   pub whole-requests : length requests ≡ requestCount requests * 5
   pub room : requestCount requests + 577 ≤ length out
+
+-- an entry past the end of a list
+abbrev pub none : HeldRight
+none = record { skid = 0; tank = 0; right = 0 }
 
 module _ (plant requests out : List ℕ) where
   abbrev pub P : Plant
@@ -35,18 +39,21 @@ module _ (plant requests out : List ℕ) where
 
   -- After an accepted batch.
   pub record Served : Type 0 where
-    -- demand 3 holds of the list of its requests, request i of them being call i
-    pub demand : Demand3 P calls
+    -- the list has a call for each request, in their order, and demand 3 holds of it
     pub as-many : length calls ≡ requestCount requests
-    -- answer i is that of request i by the history, which the monitor's is
+    pub in-order : (i : ℕ) → i < requestCount requests → getD calls i unknown ≡ callAt requests i
+    pub demand : Demand3 P calls
+    -- answer i is the one that the history gives to request i
     pub answers : (i : ℕ) → i < requestCount requests → getD (batchOut plant requests out) i 0 ≡ getD (dues P [] calls) i 0
     -- the listed rights are exactly those that the history gives, each once, rising; these are those for which a gate call would return 0
     pub rights : Lists (Gives P (history P [] calls)) held
     pub gates : Lists (λ s o r. reply P (final (fresh P) calls) (gate s o r) ≡ 0) held
-    -- their count, at most 192, and the bytes of each stand behind the answers
+    -- behind the answers stand their count, at most 192, and skid, tank and right of each
     pub at-most : length held ≤ 192
     pub count : getD (batchOut plant requests out) (requestCount requests) 0 ≡ length held
-    pub triples : (i : ℕ) → i < length held * 3 → getD (batchOut plant requests out) (requestCount requests + (1 + i)) 0 ≡ getD (rightBytes held) i 0
+    pub skids : (i : ℕ) → i < length held → getD (batchOut plant requests out) (requestCount requests + (1 + i * 3)) 0 ≡ getD held i none .skid
+    pub tanks : (i : ℕ) → i < length held → getD (batchOut plant requests out) (requestCount requests + (2 + i * 3)) 0 ≡ getD held i none .tank
+    pub right-numbers : (i : ℕ) → i < length held → getD (batchOut plant requests out) (requestCount requests + (3 + i * 3)) 0 ≡ getD held i none .right
     -- every other byte is as it was
     pub as-long : length (batchOut plant requests out) ≡ length out
     pub rest : (i : ℕ) → requestCount requests + (1 + length held * 3) ≤ i → getD (batchOut plant requests out) i 0 ≡ getD out i 0

@@ -6,7 +6,7 @@ ghost use lib.ListN.{length};
 ghost use Rattle.base.specs.Overlay.{overlay};
 ghost use Rattle.plant.specs.Checks.{plantRefusal};
 ghost use Rattle.batch.specs.Requests.{callsOf};
-ghost use Rattle.panel.specs.Batch.{outcome, batchRefusal, batchOut};
+ghost use Rattle.panel.specs.Batch.{refusalBy, outcome, batchRefusal, batchOut};
 ghost use Rattle.panel.specs.Section.{sectionPlace};
 use batch::serve;
 use held::write_held;
@@ -34,6 +34,22 @@ fn write_outcome(p: Plant, requests: &[u8], n: usize, out: &mut [u8])
     );
 }
 
+// The number that refuses a batch: opening's, then 34 for request bytes that are no multiple of five, then 31 for a buffer under n + 577 bytes.
+fn refusal(opening: u8, bytes: usize, room: usize) -> u8
+    ensures { λ r. ⌜ r ≡ refusalBy opening bytes room ⌝ }
+{
+    if opening != 0 {
+        return opening;
+    }
+    if bytes % 5 != 0 {
+        return 34;
+    }
+    if room < bytes / 5 + 577 {
+        return 31;
+    }
+    0
+}
+
 // 1 to 12: the plant. 34: request bytes that are no multiple of five. 31: a buffer under n + 577 bytes. Otherwise 0, and the buffer holds the
 // n answers, the count of rights held, and skid, tank, right of each. After a refusal it is as it was.
 #[no_mangle]
@@ -41,17 +57,11 @@ pub extern "C" fn permits_batch(plant: &[u8], requests: &[u8], out: &mut [u8]) -
     ensures { λ r. ⌜ (r ≡ batchRefusal (now (plant .entry)) (now (requests .entry)) (length (now (out .entry)))) × (now (out .exit) ≡ batchOut (now (plant .entry)) (now (requests .entry)) (now (out .entry))) ⌝ }
 {
     let reading = read(plant);
-    let answer = reading.answer;
-    if answer != 0 {
-        return answer;
-    }
-    if requests.len() % 5 != 0 {
-        return 34;
+    let number = refusal(reading.answer, requests.len(), out.len());
+    if number != 0 {
+        return number;
     }
     let n = requests.len() / 5;
-    if out.len() < n + 577 {
-        return 31;
-    }
     let p = reading.plant;
     write_outcome(p, requests, n, out);
     0

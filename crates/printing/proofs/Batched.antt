@@ -23,7 +23,7 @@ use Rattle.held.specs.Held.{HeldRight, rightsHeld, rightBytes}
 use Rattle.held.proofs.Listed.{bytes-length}
 use Rattle.panel.specs.Batch.{requestCount, batchRefusal, batchCalls, outcome, batchOut}
 use Rattle.panel.proofs.Refused.{refusal-is}
-use Rattle.printing.specs.Text.{answerLine, answerLineAt, answerLines, rightLineAt, rightLines, heldLine, heldLines, outcomeLines}
+use Rattle.printing.specs.Text.{answerLineAt, answerLines, rightLineAt, rightLines, heldLine, heldLines, outcomeLines}
 use Rattle.printing.specs.Printed.{batchLines}
 use Rattle.printing.proofs.Outcome.{refused-lines, accepted-lines}
 
@@ -37,7 +37,7 @@ held-same xs ys h =
 
 module _ (n : ℕ) (xs ys : List ℕ) (h : (i : ℕ) → i < n + (1 + byteAt ys n * 3) → byteAt xs i ≡ byteAt ys i) where
   answers-same : answerLines xs n ≡ answerLines ys n
-  answers-same = collect-same (answerLineAt xs) (answerLineAt ys) n (λ i l. ap (answerLine (i + 1)) (h i (omega arith)))
+  answers-same = collect-same (answerLineAt xs) (answerLineAt ys) n (λ i l. rw (h i (omega arith)))
 
   rights-same : heldLines (drop n xs) ≡ heldLines (drop n ys)
   rights-same =
