@@ -118,6 +118,7 @@ fn history() -> Vec<Group> {
 pub fn on_program() -> Vec<Group> {
     vec![
         group("program, input of fixed sizes", program::FIXED, program::printed),
+        group("program, all rights held", program::ALL_HELD, program::printed),
         drawn("program", 400, program::inputs, program::printed),
     ]
 }

@@ -7,6 +7,7 @@ use crate::group::Inputs;
 use crate::input::Input;
 use crate::session;
 use permit_monitor::gen::{program_input, Rng};
+use permit_monitor::permits::LONGEST_INPUT;
 use std::fs::{self, File};
 use std::io::{self, Read, Write};
 use std::path::{Path, PathBuf};
@@ -21,9 +22,9 @@ const PROGRAM_FILE: &str = "target/bin/permits";
 const BYTE_BY_BYTE: usize = 6000;
 
 /// Lengths of input around 01's limits: 24, the plant of 132 bytes and one
-/// request more, and 65,536.
-const SIZES: [usize; 16] =
-    [0, 1, 2, 21, 22, 23, 24, 25, 131, 132, 133, 137, 65_535, 65_536, 65_537, 131_072];
+/// request more, the most requests behind it, and 65,536.
+const SIZES: [usize; 17] =
+    [0, 1, 2, 21, 22, 23, 24, 25, 131, 132, 133, 137, 65_532, 65_535, 65_536, 65_537, 131_072];
 
 /// Whether there is a program to compare.
 pub fn is_built() -> bool {
@@ -45,6 +46,21 @@ enum Feed {
 pub fn inputs(rng: &mut Rng) -> Vec<Input> {
     vec![Input { plant: program_input(rng), ..Input::default() }]
 }
+
+/// All 192 rights held, on the smallest plant that has them: after the calls
+/// that it takes, and after as many requests of unknown kind as fit, which is
+/// the longest text that the program can print.
+pub const ALL_HELD: Inputs = Inputs::Every {
+    count: 2,
+    make: |number| {
+        let mut plant = session::all_rights_plant();
+        plant.extend((0..8).flat_map(|skid| [0, skid, 0, 0, 0, 1, skid, 0, 0, 0]));
+        while number == 1 && plant.len() + 5 <= LONGEST_INPUT {
+            plant.extend([9, 0, 0, 0, 0]);
+        }
+        vec![Input { plant, ..Input::default() }]
+    },
+};
 
 /// 01's session cut or lengthened to each size: with stops of skid 1 behind it,
 /// and with zeros.

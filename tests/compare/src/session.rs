@@ -1,7 +1,8 @@
-//! 01's plant and session, written out from the paper.
+//! 01's plant and session, written out from the paper, and the smallest plant of
+//! which all rights can be held.
 
 use crate::input::Input;
-use permit_monitor::gen::lattices::sets;
+use permit_monitor::gen::lattices::{chain, sets};
 use permit_monitor::gen::plants::{lattice_record, Draft, Layout};
 use permit_monitor::lattice::Lattice;
 
@@ -42,4 +43,18 @@ pub const REQUESTS: [[u8; 5]; 10] = [
 /// The session with this plant file, and a buffer that just fits.
 pub fn with_plant(plant: Vec<u8>) -> Input {
     Input { plant, requests: REQUESTS.concat(), buffer: REQUESTS.len() + 577, ..Input::default() }
+}
+
+/// One level, eight groups of one tank, one task with every right on every
+/// group, and eight skids that may run it.
+pub fn all_rights_plant() -> Vec<u8> {
+    let draft = Draft {
+        lattices: vec![lattice_record(&chain(1))],
+        requirements: vec![[0, 0]],
+        groups: vec![[0, 0]; 8],
+        tanks: (0..8).map(|group| [group, 0]).collect(),
+        tasks: vec![[1, 0, 7, 7, 7, 7, 7, 7, 7, 7]],
+        skids: vec![[1, 0]; 8],
+    };
+    Layout::packed().file(&draft)
 }

@@ -10,9 +10,10 @@ use crate::smaller::{items, levels, without_items, without_levels};
 use permit_monitor::gen::plants::state_length;
 use permit_monitor::opening::HEADER;
 use std::ops::Range;
+use std::time::{Duration, Instant};
 
-/// After so many tries the shortest input so far has to do.
-const TRIES: usize = 20_000;
+/// After this time the shortest input so far has to do.
+const PATIENCE: Duration = Duration::from_secs(10);
 
 /// A way to make an input shorter: how many items it can leave out, and the
 /// input without a stretch of them.
@@ -35,11 +36,8 @@ const WAYS: [Way; 9] = [
 
 /// The shortest input found for which `differs` still holds.
 pub fn shortest(input: &Input, mut differs: impl FnMut(&Input) -> bool) -> Input {
-    let mut tries = 0;
-    let mut limited = |input: &Input| {
-        tries += 1;
-        tries <= TRIES && differs(input)
-    };
+    let begun = Instant::now();
+    let mut limited = |input: &Input| begun.elapsed() < PATIENCE && differs(input);
     let mut best = input.clone();
     loop {
         let before = best.clone();
