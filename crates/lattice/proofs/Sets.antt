@@ -14,13 +14,13 @@ use Rattle.base.specs.Below.{allBelow, implies}
 use Rattle.base.specs.Bits.{bit}
 use Rattle.base.specs.Last.{lastBelow}
 use Rattle.base.proofs.Logic.{split, true-false, same-test, and-true, and-both, implies-true, implies-intro, not-is-true}
-use Rattle.base.proofs.Below.{all-at, all-yes}
+use Rattle.base.proofs.Below.{all-at, all-yes, any-yes, first-is}
 use Rattle.base.proofs.Last.{last-first, first-same}
 use Rattle.base.proofs.Shared.{Within, shared, shared-at, zero-bits}
-use Rattle.lattice.specs.Order.{Order}
+use Rattle.lattice.specs.Order.{Order, Join}
 use Rattle.lattice.specs.Levels.{Layout, ordered, isJoin, joinOf}
 use Rattle.lattice.specs.Sets.{withSets, underIn, Sound, strictly, pairOrdered, rowOrdered, isSet}
-use Rattle.lattice.proofs.Laws.{order-iff, join-says, join-holds}
+use Rattle.lattice.proofs.Laws.{order-iff, join-says, join-holds, join-unique}
 
 module _ (n : ℕ) (s : List ℕ) where
   abbrev set : ℕ → ℕ
@@ -99,3 +99,17 @@ module _ (n : ℕ) (s : List ℕ) where
         let b : n ≤ 16 = w .clean .at-most-16 in
         last-first 255 (isSet s (bitAnd (set i) (set j))) n 16 (omega arith) b (set-alone (bitAnd (set i) (set j)))
         ∙ first-same 255 n (isSet s (bitAnd (set i) (set j))) (isJoin n (underIn s) i j) join-set
+
+    -- a level that is a join of i and j is the one that the table has
+    join-is : (u : ℕ) → Join n (underIn s) i j u → u ≡ joinOf n (underIn s) i j
+    unfolding joinOf
+    join-is u t =
+        let f = first-is 255 n (isJoin n (underIn s) i j) (any-yes n (isJoin n (underIn s) i j) u (t .is-level) (join-holds n (underIn s) i j u t)) in
+        join-unique n (underIn s) (w .order) i j u _ t (join-says n (underIn s) i j _ (f .below) (f .passes))
+
+    -- the join of two levels of which one is under the other is the upper one
+    pub join-right : underIn s i j ≡ true → j ≡ joinOf n (underIn s) i j
+    join-right u = join-is j (record { is-level = q; above-left = u; above-right = w .order .reflexive j q; least = λ v l a b. b })
+
+    pub join-left : underIn s j i ≡ true → i ≡ joinOf n (underIn s) i j
+    join-left u = join-is i (record { is-level = p; above-left = w .order .reflexive i p; above-right = u; least = λ v l a b. a })

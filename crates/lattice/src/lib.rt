@@ -158,12 +158,21 @@ fn level_of(s: &[u16; 16], x: u16) -> u16
     found
 }
 
-// The join of i and j: the level whose set is what their sets share. A set that is not used is no level's.
+// The join of i and j: the upper of the two where one is under the other, so that most pairs want no search; else the level whose set is
+// what their sets share. A set that is not used is no level's.
 fn join(s: &[u16; 16], n: usize, i: usize, j: usize) -> u8
     requires { ⌜ Sound n (now s) × ((i < n) × (j < n)) ⌝ }
     ensures { λ r. ⌜ r ≡ joinOf n (underIn (now (s .entry))) i j ⌝ }
 {
-    let k = level_of(s, s[i] & s[j]);
+    let a = s[i];
+    let b = s[j];
+    if has(a, j) {
+        return j as u8;
+    }
+    if has(b, i) {
+        return i as u8;
+    }
+    let k = level_of(s, a & b);
     if (k as usize) < n { k as u8 } else { 255 }
 }
 
