@@ -9,17 +9,17 @@ use mathlib.Core.List.{List}
 use lib.Bits.{bitAnd}
 use lib.Dec.{eqb, ltb}
 use lib.ListN.{getD}
-use borrow.Author.Tests.{eqb-true, eqb-false, eq-eqb, not-true}
+use borrow.Author.Tests.{eqb-true, eqb-false, eq-eqb, ne-eqb, not-true}
 use Rattle.base.specs.Below.{allBelow, implies}
 use Rattle.base.specs.Bits.{bit}
 use Rattle.base.specs.Last.{lastBelow}
-use Rattle.base.proofs.Logic.{split, true-false, same-test, and-true, and-both, implies-true, implies-intro, not-is-true}
+use Rattle.base.proofs.Logic.{split, true-false, same-test, and-true, and-both, implies-true, implies-intro, not-is-true, or-cases}
 use Rattle.base.proofs.Below.{all-at, all-yes, any-yes, first-is}
 use Rattle.base.proofs.Last.{last-first, first-same}
 use Rattle.base.proofs.Shared.{Within, shared, shared-at, zero-bits}
 use Rattle.lattice.specs.Order.{Order, Join}
 use Rattle.lattice.specs.Levels.{Layout, ordered, isJoin, joinOf}
-use Rattle.lattice.specs.Sets.{withSets, underIn, Sound, strictly, pairOrdered, rowOrdered, isSet}
+use Rattle.lattice.specs.Sets.{withSets, underIn, Sound, comparable, strictly, pairOrdered, rowOrdered, isSet}
 use Rattle.lattice.proofs.Laws.{order-iff, join-says, join-holds, join-unique}
 
 module _ (n : ℕ) (s : List ℕ) where
@@ -62,11 +62,23 @@ module _ (n : ℕ) (s : List ℕ) where
     order-pair : pairOrdered s i j ≡ true
     order-pair = split (eqb i j) (λ z. rw z (o .reflexive i p)) (λ z. rw z (implies-intro (underIn s i j) (strictly s i j) (order-strictly z)))
 
+  -- a level that is not used is in no set
+  unused-pair : Layout (withSets n s) → (i j : ℕ) → i < n → n ≤ j → pairOrdered s i j ≡ true
+  unused-pair y i j p h =
+      let apart : i ≡ j → ⊥ = λ z. omega (arith, z) in
+      rw (ne-eqb i j apart, within y i p j h)
+
+  order-row : Layout (withSets n s) → Order n (underIn s) → (i : ℕ) → i < n → rowOrdered s i ≡ true
+  order-row y o i p = all-yes 16 (pairOrdered s i) (λ j l. elim (decLt j n) [
+    | yes q ↦ order-pair y o i p j q
+    | no q ↦ unused-pair y i j p (omega arith)
+  ])
+
   -- 8 by whole sets: each pair passes where the levels are in order, and only there.
-  pub pairs-ordered : Layout (withSets n s) → allBelow (rowOrdered s n) n ≡ ordered n (underIn s)
+  pub pairs-ordered : Layout (withSets n s) → allBelow (rowOrdered s) n ≡ ordered n (underIn s)
   pairs-ordered y = same-test _ _
-      (λ e. order-iff n (underIn s) .1 (pairs-order (λ i p j q. all-at n (pairOrdered s i) (all-at n (rowOrdered s n) e i p) j q)))
-      (λ e. let o = order-iff n (underIn s) .0 e in all-yes n (rowOrdered s n) (λ i p. all-yes n (pairOrdered s i) (order-pair y o i p)))
+      (λ e. order-iff n (underIn s) .1 (pairs-order (λ i p j q. all-at 16 (pairOrdered s i) (all-at n (rowOrdered s) e i p) j (omega (arith, y .at-most-16)))))
+      (λ e. let o = order-iff n (underIn s) .0 e in all-yes n (rowOrdered s) (order-row y o))
 
   module _ (w : Sound n s) (i j : ℕ) (p : i < n) (q : j < n) where
     -- The law of joins: level k is the join of i and j where its set is what theirs share, and only there.
@@ -113,3 +125,6 @@ module _ (n : ℕ) (s : List ℕ) where
 
     pub join-left : underIn s j i ≡ true → i ≡ joinOf n (underIn s) i j
     join-left u = join-is i (record { is-level = p; above-left = w .order .reflexive i p; above-right = u; least = λ v l a b. a })
+
+    pub join-upper : comparable s i j ≡ true → underIn s j i ≡ false → j ≡ joinOf n (underIn s) i j
+    join-upper e u = join-right (split (underIn s i j) (λ v. v) (λ v. absurd (true-false (sym (or-cases (underIn s i j) (underIn s j i) e v) ∙ u))))
