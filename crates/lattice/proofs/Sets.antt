@@ -4,23 +4,40 @@ use mathlib.Core.Path.{_≡_, refl, sym, ap, _∙_}
 use Prim.Native.Nat.{ℕ, _≤_, _<_}
 use native.Mathlib.Omega.{arith}
 use native.Mathlib.Decide.{decLt}
-use mathlib.Core.Bool.{true, false, cond, not, _&&_}
+use mathlib.Core.Bool.{Bool, true, false, cond, not, _&&_}
 use mathlib.Core.List.{List}
 use lib.Bits.{bitAnd}
 use lib.Dec.{eqb, ltb}
 use lib.ListN.{getD}
-use borrow.Author.Tests.{eqb-true, eqb-false, eq-eqb, ne-eqb, not-true}
-use Rattle.base.specs.Below.{allBelow, implies}
+use borrow.Author.Tests.{eqb-true, eqb-false, eq-eqb, ne-eqb, not-true, lt-ltb, le-ltb}
+use Rattle.base.specs.Below.{allBelow, anyBelow, firstBelow, implies}
 use Rattle.base.specs.Bits.{bit}
-use Rattle.base.specs.Last.{lastBelow}
 use Rattle.base.proofs.Logic.{split, true-false, same-test, and-true, and-both, implies-true, implies-intro, not-is-true, or-cases}
-use Rattle.base.proofs.Below.{all-at, all-yes, any-yes, first-is}
-use Rattle.base.proofs.Last.{last-first, first-same}
+use Rattle.base.proofs.Below.{all-at, all-yes, any-yes, any-no, first-is, first-none, lowest-unique}
+use Rattle.base.proofs.Last.{first-same}
 use Rattle.base.proofs.Shared.{Within, shared, shared-at, zero-bits}
 use Rattle.lattice.specs.Order.{Order, Join}
 use Rattle.lattice.specs.Levels.{Layout, ordered, isJoin, joinOf}
 use Rattle.lattice.specs.Sets.{withSets, underIn, Sound, comparable, strictly, pairOrdered, rowOrdered, isSet}
 use Rattle.lattice.proofs.Laws.{order-iff, join-says, join-holds, join-unique}
+
+-- the first index below m that passes, where only those below n count
+first-within : (none : ℕ) (p : ℕ → Bool) (n m : ℕ) → n ≤ none → n ≤ m → cond (ltb (firstBelow none p m) n) (firstBelow none p m) none ≡ firstBelow none p n
+first-within none p n m a b = split (anyBelow p n)
+    (λ h.
+    let f = first-is none n p h in
+    let g = first-is none m p (any-yes m p (firstBelow none p n) (omega (arith, f .below)) (f .passes)) in
+    let e : firstBelow none p n ≡ firstBelow none p m =
+    lowest-unique m p (firstBelow none p n) (firstBelow none p m) (record { below = omega (arith, f .below); passes = f .passes; first = f .first }) g in
+    rw (← e, lt-ltb (firstBelow none p n) n (f .below)))
+    (λ h.
+    let past : n ≤ firstBelow none p m = split (anyBelow p m)
+    (λ q. elim (decLt (firstBelow none p m) n) [
+      | yes l ↦ absurd (true-false (sym (first-is none m p q .passes) ∙ any-no n p h (firstBelow none p m) l))
+      | no l ↦ omega arith
+    ])
+    (λ q. rw (first-none none m p q) a) in
+    rw (le-ltb (firstBelow none p m) n past, first-none none n p h))
 
 module _ (n : ℕ) (s : List ℕ) where
   abbrev set : ℕ → ℕ
@@ -95,21 +112,11 @@ module _ (n : ℕ) (s : List ℕ) where
         (λ h. and-both _ _ (w .order .transitive i k v p r l (t .above-left) h) (w .order .transitive j k v q r l (t .above-right) h))
         (λ h. let g = and-true (underIn s i v) (underIn s j v) h in t .least v l (g .0) (g .1)))))
 
-    -- no two levels have one set, and no level has the set of a place that is not used
-    set-alone : (x k m : ℕ) → k < n → m < 16 → isSet s x k ≡ true → isSet s x m ≡ true → k ≡ m
-    set-alone x k m r l a b =
-        let same : set k ≡ set m = eqb-true _ _ a ∙ sym (eqb-true _ _ b) in
-        let own = w .order .reflexive k r in
-        elim (decLt m n) [
-          | yes h ↦ w .order .antisymmetric k m r h (ap (λ (z : ℕ). bit z m) same ∙ w .order .reflexive m h) (ap (λ (z : ℕ). bit z k) (sym same) ∙ own)
-          | no h ↦ absurd (true-false (sym own ∙ ap (λ (z : ℕ). bit z k) (same ∙ w .clean .sets-from-n m (omega arith) l) ∙ zero-bits k))
-        ]
-
-    pub join-found : cond (ltb (lastBelow 255 (isSet s (bitAnd (set i) (set j))) 16) n) (lastBelow 255 (isSet s (bitAnd (set i) (set j))) 16) 255 ≡ joinOf n (underIn s) i j
+    pub join-found : cond (ltb (firstBelow 255 (isSet s (bitAnd (set i) (set j))) 16) n) (firstBelow 255 (isSet s (bitAnd (set i) (set j))) 16) 255 ≡ joinOf n (underIn s) i j
     unfolding joinOf
     join-found =
         let b : n ≤ 16 = w .clean .at-most-16 in
-        last-first 255 (isSet s (bitAnd (set i) (set j))) n 16 (omega arith) b (set-alone (bitAnd (set i) (set j)))
+        first-within 255 (isSet s (bitAnd (set i) (set j))) n 16 (omega arith) b
         ∙ first-same 255 n (isSet s (bitAnd (set i) (set j))) (isJoin n (underIn s) i j) join-set
 
     -- a level that is a join of i and j is the one that the table has

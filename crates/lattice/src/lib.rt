@@ -2,9 +2,8 @@
 ghost use mathlib.Core.Path.{_≡_};
 ghost use mathlib.Core.Bool.{true};
 ghost use Prim.Native.Nat.{_<_, _≤_};
-ghost use Rattle.base.specs.Below.{allBelow};
+ghost use Rattle.base.specs.Below.{allBelow, firstBelow};
 ghost use Rattle.base.specs.Bits.{bit};
-ghost use Rattle.base.specs.Last.{lastBelow};
 ghost use Rattle.lattice.specs.Levels.{Layout, setClear, layout, ordered, joinOf, complete, refusal};
 ghost use Rattle.lattice.specs.Sets.{withSets, underIn, Sound, Turned, comparable, pairOrdered, rowOrdered, isSet, turnedSet, turnedSets};
 ghost use Rattle.lattice.specs.Table.{joinRow, joinTable, rowFull, tableFull};
@@ -14,6 +13,9 @@ pub struct Lattice {
     pub n: u8,
     pub sets: [u16; 16],
 }
+
+// The levels' numbers as bytes: a row is made of bytes side by side where nothing in it is as wide as an index.
+const NUMBERS: [u8; 16] = [0, 1, 2, 3, 4, 5, 6, 7, 8, 9, 10, 11, 12, 13, 14, 15];
 
 // A set may be shifted by 16, for n = 16, which its own width does not allow.
 fn wide(x: u16) -> u32
@@ -146,19 +148,18 @@ fn turned(s: &[u16; 16]) -> [u16; 16]
     t
 }
 
-// The level whose set is x, or 255. It looks at all 16 sets and never leaves early, so that they are compared side by side.
-fn level_of(s: &[u16; 16], x: u16) -> u16
-    ensures { λ r. ⌜ r ≡ lastBelow 255 (isSet (now (s .entry)) x) 16 ⌝ }
+// The first level whose set is x, or 255. It goes over all 16 sets, whatever their number, so that the search has no count to keep.
+fn level_of(s: &[u16; 16], x: u16) -> usize
+    ensures { λ r. ⌜ r ≡ firstBelow 255 (isSet (now (s .entry)) x) 16 ⌝ }
 {
-    let mut found: u16 = 255;
     let mut k: usize = 0;
     while k < 16 {
         if s[k] == x {
-            found = k as u16;
+            return k;
         }
         k += 1;
     }
-    found
+    255
 }
 
 // The join of i and j: the upper of the two where one is under the other, so that most pairs want no search; else the level whose set is
@@ -176,7 +177,7 @@ fn join(s: &[u16; 16], n: usize, i: usize, j: usize) -> u8
         return i as u8;
     }
     let k = level_of(s, x & y);
-    if (k as usize) < n { k as u8 } else { 255 }
+    if k < n { k as u8 } else { 255 }
 }
 
 // Each of n levels is in the set x.
@@ -193,7 +194,9 @@ fn upper(s: &[u16; 16], n: usize, i: usize, j: usize) -> u8
     requires { ⌜ comparable (now s) i j ≡ true ⌝ }
     ensures { λ r. ⌜ r ≡ joinOf n (underIn (now (s .entry))) i j ⌝ }
 {
-    if has(s[j], i) { i as u8 } else { j as u8 }
+    let own = i as u8;
+    let other = NUMBERS[j];
+    if has(s[j], i) { own } else { other }
 }
 
 // Entries of a row from n on stay 255: they are of no pair of levels.

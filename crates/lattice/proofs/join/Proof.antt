@@ -42,4 +42,4 @@ join-spec =
     tie.close
     (tie.spec
     (λ c. search needs) (λ c. search needs) (λ c. search needs) (λ c. search needs) (λ c κs. search needs) (λ c. search needs) upper-right
-    (λ c κs. search needs) (λ c. search needs) upper-left (λ c κs. search needs) (λ c. search needs) (λ c. search needs) found none)
+    (λ c κs. search needs) (λ c. search needs) upper-left (λ c κs. search needs) (λ c. search needs) found none)
