@@ -1,18 +1,18 @@
 -- What whole sets say of single levels: two sets that share their bits, and the join of two levels as the level whose set is what theirs share.
 -- Assumes nothing.
-use mathlib.Core.Path.{_≡_, refl, sym, ap, _∙_}
+use mathlib.Core.Path.{_≡_, sym, ap, _∙_}
 use Prim.Native.Nat.{ℕ, _≤_, _<_}
 use native.Mathlib.Omega.{arith}
 use native.Mathlib.Decide.{decLt}
-use mathlib.Core.Bool.{Bool, true, false, cond, not, _&&_}
+use mathlib.Core.Bool.{Bool, true, false, cond, not, _&&_, _||_}
 use mathlib.Core.List.{List}
 use lib.Bits.{bitAnd}
 use lib.Dec.{eqb, ltb}
 use lib.ListN.{getD}
-use borrow.Author.Tests.{eqb-true, eqb-false, eq-eqb, ne-eqb, not-true, lt-ltb, le-ltb}
+use borrow.Author.Tests.{eqb-true, eqb-false, eq-eqb, not-true, lt-ltb, le-ltb}
 use Rattle.base.specs.Below.{allBelow, anyBelow, firstBelow, implies}
 use Rattle.base.specs.Bits.{bit}
-use Rattle.base.proofs.Logic.{split, true-false, same-test, and-true, and-both, implies-true, implies-intro, not-is-true, or-cases}
+use Rattle.base.proofs.Logic.{split, true-false, same-test, and-true, and-both, implies-true, implies-intro, not-is-true, or-cases, or-left, or-right}
 use Rattle.base.proofs.Below.{all-at, all-yes, any-yes, any-no, first-is, first-none, lowest-unique}
 use Rattle.base.proofs.Last.{first-same}
 use Rattle.base.proofs.Shared.{Within, shared, shared-at, zero-bits}
@@ -47,18 +47,14 @@ module _ (n : ℕ) (s : List ℕ) where
   within : Layout (withSets n s) → (i : ℕ) → i < n → Within n (set i)
   within y i l j h = y .bits-from-n i j (omega (arith, y .at-most-16)) h
 
-  module _ (i j : ℕ) (e : pairOrdered s i j ≡ true) where
-    pair-same : i ≡ j → underIn s i i ≡ true
-    pair-same z = rw (eq-eqb i j z) at e
+  pair-other : (i j : ℕ) → pairOrdered s i j ≡ true → eqb i j ≡ false → underIn s i j ≡ true → (not (underIn s j i) ≡ true) × (eqb (bitAnd (set i) (set j)) (set j) ≡ true)
+  pair-other i j e z u =
+      and-true (not (underIn s j i)) (eqb (bitAnd (set i) (set j)) (set j))
+      (or-cases (eqb i j) (strictly s i j) (implies-true (underIn s i j) (eqb i j || strictly s i j) e u) z)
 
-    pair-other : eqb i j ≡ false → underIn s i j ≡ true → (not (underIn s j i) ≡ true) × (eqb (bitAnd (set i) (set j)) (set j) ≡ true)
-    pair-other z u =
-        let f : implies (underIn s i j) (strictly s i j) ≡ true = rw z at e in
-        and-true (not (underIn s j i)) (eqb (bitAnd (set i) (set j)) (set j)) (implies-true (underIn s i j) (strictly s i j) f u)
-
-  pairs-order : ((i : ℕ) → i < n → (j : ℕ) → j < n → pairOrdered s i j ≡ true) → Order n (underIn s)
-  pairs-order h = record {
-    reflexive = λ i p. pair-same i i (h i p i p) refl;
+  pairs-order : ((i : ℕ) → i < n → underIn s i i ≡ true) → ((i : ℕ) → i < n → (j : ℕ) → j < n → pairOrdered s i j ≡ true) → Order n (underIn s)
+  pairs-order own h = record {
+    reflexive = own;
     antisymmetric = λ i j p q u v. split (eqb i j)
         (λ z. eqb-true i j z)
         (λ z. absurd (true-false (sym v ∙ not-true (underIn s j i) (pair-other i j (h i p j q) z u .0))));
@@ -77,24 +73,29 @@ module _ (n : ℕ) (s : List ℕ) where
         (λ k r. same-test (underIn s j k) (underIn s i k && underIn s j k) (λ v. and-both _ _ (o .transitive i j k p q r u v) v) (λ w. and-true (underIn s i k) (underIn s j k) w .1)))))
 
     order-pair : pairOrdered s i j ≡ true
-    order-pair = split (eqb i j) (λ z. rw z (o .reflexive i p)) (λ z. rw z (implies-intro (underIn s i j) (strictly s i j) (order-strictly z)))
+    order-pair = implies-intro (underIn s i j) (eqb i j || strictly s i j)
+        (λ u. split (eqb i j) (λ z. or-left (eqb i j) (strictly s i j) z) (λ z. or-right (eqb i j) (strictly s i j) (order-strictly z u)))
 
   -- a level that is not used is in no set
   unused-pair : Layout (withSets n s) → (i j : ℕ) → i < n → n ≤ j → pairOrdered s i j ≡ true
-  unused-pair y i j p h =
-      let apart : i ≡ j → ⊥ = λ z. omega (arith, z) in
-      rw (ne-eqb i j apart, within y i p j h)
+  unused-pair y i j p h = rw (within y i p j h)
 
   order-row : Layout (withSets n s) → Order n (underIn s) → (i : ℕ) → i < n → rowOrdered s i ≡ true
-  order-row y o i p = all-yes 16 (pairOrdered s i) (λ j l. elim (decLt j n) [
-    | yes q ↦ order-pair y o i p j q
-    | no q ↦ unused-pair y i j p (omega arith)
-  ])
+  order-row y o i p = and-both _ _
+      (all-yes 16 (pairOrdered s i) (λ j l. elim (decLt j n) [
+        | yes q ↦ order-pair y o i p j q
+        | no q ↦ unused-pair y i j p (omega arith)
+      ]))
+      (o .reflexive i p)
 
-  -- 8 by whole sets: each pair passes where the levels are in order, and only there.
+  row-says : allBelow (rowOrdered s) n ≡ true → (i : ℕ) → i < n → (allBelow (pairOrdered s i) 16 ≡ true) × (underIn s i i ≡ true)
+  row-says e i p = and-true (allBelow (pairOrdered s i) 16) (underIn s i i) (all-at n (rowOrdered s) e i p)
+
+  -- 8 by whole sets: each row passes where the levels are in order, and only there.
   pub pairs-ordered : Layout (withSets n s) → allBelow (rowOrdered s) n ≡ ordered n (underIn s)
   pairs-ordered y = same-test _ _
-      (λ e. order-iff n (underIn s) .1 (pairs-order (λ i p j q. all-at 16 (pairOrdered s i) (all-at n (rowOrdered s) e i p) j (omega (arith, y .at-most-16)))))
+      (λ e. order-iff n (underIn s) .1 (pairs-order (λ i p. row-says e i p .1)
+      (λ i p j q. all-at 16 (pairOrdered s i) (row-says e i p .0) j (omega (arith, y .at-most-16)))))
       (λ e. let o = order-iff n (underIn s) .0 e in all-yes n (rowOrdered s) (order-row y o))
 
   module _ (w : Sound n s) (i j : ℕ) (p : i < n) (q : j < n) where

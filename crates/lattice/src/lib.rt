@@ -78,10 +78,10 @@ fn pair_ordered(s: &[u16; 16], i: usize, j: usize) -> bool
 {
     let a = s[i];
     let b = s[j];
-    if i == j {
-        return has(a, i);
-    }
     if !has(a, j) {
+        return true;
+    }
+    if i == j {
         return true;
     }
     if has(b, i) {
@@ -103,7 +103,7 @@ fn row_ordered(s: &[u16; 16], i: usize) -> bool
         }
         j += 1;
     }
-    ordered
+    ordered && has(s[i], i)
 }
 
 // 8: the levels are in order.

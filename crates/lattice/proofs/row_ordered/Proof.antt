@@ -3,11 +3,13 @@ use Prim.Native.Nat.{ℕ, _+_, _≤_, _-_}
 use mathlib.Core.Path.{_≡_, sym, ap, _∙_}
 use mathlib.Core.Logic.{⊎-elim}
 use mathlib.Core.Bool.{Bool, false, not}
+use native.Mathlib.Nat.{le-antisymm}
 use native.Mathlib.Numerals.{add-one}
 use native.Mathlib.Omega.{arith}
 use borrow.Author.Needs.{needs}
 use borrow.Author.Tests.{not-false}
 use Rattle.base.specs.Below.{allBelow}
+use Rattle.base.proofs.Both.{both-on, both-off}
 use Rattle.base.proofs.Logic.{split}
 use Rattle.base.proofs.Scan.{all-none, all-off}
 use Rattle.lattice.specs.Sets.{pairOrdered}
@@ -37,14 +39,23 @@ loop-again c =
           (c .if1 .came),
     )
 
+-- what the loop noted is of all levels
+noted : {r : Bool} (p : ℕ → Bool) (j : ℕ) → j ≤ 16 → 16 ≤ j → r ≡ allBelow p j → r ≡ allBelow p 16
+noted p j a b e = e ∙ ap (allBelow p) (le-antisymm a b)
+
 returns : tie.Need-returns Inv-loop μ-loop
 returns c =
-    let l = c .before .loop in
-    let e : l .j ≡ 16 = omega arith in
-    l .inv .1 ∙ ap (allBelow _) e
+    let l = c .before .before .before .before in
+    both-on _ _ (noted _ _ (search needs) (search needs) (l .loop .inv .1)) (c .before .before .if2 .taken) (c .has .ensures)
+
+returns-2 : tie.Need-returns-2 Inv-loop μ-loop
+returns-2 c =
+    let l = c .before .before in
+    both-off _ _ (noted _ _ (search needs) (search needs) (l .loop .inv .1)) (c .if2 .left)
 
 pub row-ordered-spec : {M : Type 1} → statement M
 row-ordered-spec =
     tie.close
     (tie.spec Inv-loop μ-loop
-    (λ c. (search needs, sym (all-none _))) (λ c κs. search needs) (λ c. search needs) (λ c. search needs) loop-again returns)
+    (λ c. (search needs, sym (all-none _))) (λ c κs. search needs) (λ c. search needs) (λ c. search needs) loop-again
+    (λ c. search needs) (λ c. search needs) (λ c κs. search needs) returns returns-2)
