@@ -188,14 +188,13 @@ fn is_all(x: u16, n: usize) -> bool
     wide(x) + 1 == 1u32 << n
 }
 
-// The join of i and j where one is under the other: the upper one.
-fn upper(s: &[u16; 16], n: usize, i: usize, j: usize) -> u8
+// The join of i and j where one is under the other: the upper one. The number of j comes as a byte too.
+fn upper(s: &[u16; 16], n: usize, i: usize, j: usize, other: u8) -> u8
     requires { ⌜ Sound n (now s) × ((i < n) × (j < n)) ⌝ }
-    requires { ⌜ comparable (now s) i j ≡ true ⌝ }
+    requires { ⌜ (comparable (now s) i j ≡ true) × (other ≡ j) ⌝ }
     ensures { λ r. ⌜ r ≡ joinOf n (underIn (now (s .entry))) i j ⌝ }
 {
     let own = i as u8;
-    let other = NUMBERS[j];
     if has(s[j], i) { own } else { other }
 }
 
@@ -205,10 +204,11 @@ fn upper_row(s: &[u16; 16], n: usize, i: usize) -> [u8; 16]
     requires { ⌜ allBelow (comparable (now s) i) n ≡ true ⌝ }
     ensures { λ r. ⌜ r ≡ joinRow n (underIn (now (s .entry))) i ⌝ }
 {
+    let numbers = NUMBERS;
     let mut row = [255u8; 16];
     let mut j: usize = 0;
     while j < n {
-        row[j] = upper(s, n, i, j);
+        row[j] = upper(s, n, i, j, numbers[j]);
         j += 1;
     }
     row
