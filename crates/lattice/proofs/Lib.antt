@@ -1,5 +1,6 @@
 pub mod Laws
 pub mod Sets
+pub mod Compared
 pub mod Meets
 pub mod Tables
 pub mod Verdict

@@ -65,7 +65,7 @@ module _ (s : List ℕ) where
       | no q ↦ turned-clear j i p (omega (arith, y .at-most-16))
     ])
 
-    turned-agrees : (i j : ℕ) → i < n → j < n → underIn (turnedSets s) i j ≡ turned (underIn s) i j
+    pub turned-agrees : (i j : ℕ) → i < n → j < n → underIn (turnedSets s) i j ≡ turned (underIn s) i j
     turned-agrees i j p q = turned-at i j (omega (arith, y .at-most-16)) (omega (arith, y .at-most-16))
 
     -- the joins of the turned sets are the meets

@@ -1,6 +1,7 @@
 -- What the code looks at in place of single bits: the sets of a lattice, each as one number.
-use Prim.Native.Nat.{ℕ, _/_, _%_, _^_}
-use mathlib.Core.Bool.{Bool, not, cond, _&&_}
+use mathlib.Core.Path.{_≡_}
+use Prim.Native.Nat.{ℕ, _/_, _%_, _^_, _<_}
+use mathlib.Core.Bool.{Bool, not, _&&_, _||_}
 use mathlib.Core.List.{List}
 use lib.Dec.{eqb}
 use lib.Bits.{bitAnd}
@@ -25,17 +26,25 @@ pub record Sound (n : ℕ) (s : List ℕ) : Type 0 where
   pub clean : Layout (withSets n s)
   pub order : Order n (underIn s)
 
+-- t has the sets of the turned order of s
+abbrev pub Turned : ℕ → List ℕ → List ℕ → Type 0
+Turned n s t = (i j : ℕ) → i < n → j < n → underIn t i j ≡ underIn s j i
+
+-- one of the levels i and j is under the other
+abbrev pub comparable : List ℕ → ℕ → ℕ → Bool
+comparable s i j = underIn s i j || underIn s j i
+
 -- Level i is under another level j: then j is not under i, and the set of j lies in that of i.
 abbrev pub strictly : List ℕ → ℕ → ℕ → Bool
 strictly s i j = not (underIn s j i) && eqb (bitAnd (getD s i 0) (getD s j 0)) (getD s j 0)
 
--- Levels i and j are in order. A level is under itself.
+-- levels i and j are in order
 abbrev pub pairOrdered : List ℕ → ℕ → ℕ → Bool
-pairOrdered s i j = cond (eqb i j) (underIn s i i) (implies (underIn s i j) (strictly s i j))
+pairOrdered s i j = implies (underIn s i j) (eqb i j || strictly s i j)
 
--- level i is in order with each level
-abbrev pub rowOrdered : List ℕ → ℕ → ℕ → Bool
-rowOrdered s n i = allBelow (pairOrdered s i) n
+-- Level i is in order with each level, and under itself.
+abbrev pub rowOrdered : List ℕ → ℕ → Bool
+rowOrdered s i = allBelow (pairOrdered s i) 16 && underIn s i i
 
 -- set k is x
 abbrev pub isSet : List ℕ → ℕ → ℕ → Bool

@@ -1,11 +1,11 @@
 // Lattices of levels: the test that a lattice record is a lattice, by its table of joins and its table of meets.
 ghost use mathlib.Core.Path.{_≡_};
+ghost use mathlib.Core.Bool.{true};
 ghost use Prim.Native.Nat.{_<_, _≤_};
-ghost use Rattle.base.specs.Below.{allBelow};
+ghost use Rattle.base.specs.Below.{allBelow, firstBelow};
 ghost use Rattle.base.specs.Bits.{bit};
-ghost use Rattle.base.specs.Last.{lastBelow};
 ghost use Rattle.lattice.specs.Levels.{Layout, setClear, layout, ordered, joinOf, complete, refusal};
-ghost use Rattle.lattice.specs.Sets.{withSets, underIn, Sound, pairOrdered, rowOrdered, isSet, turnedSet, turnedSets};
+ghost use Rattle.lattice.specs.Sets.{withSets, underIn, Sound, Turned, comparable, pairOrdered, rowOrdered, isSet, turnedSet, turnedSets};
 ghost use Rattle.lattice.specs.Table.{joinRow, joinTable, rowFull, tableFull};
 
 // A lattice record: n levels, and bit j of sets[i] where level i is at or under level j.
@@ -13,6 +13,9 @@ pub struct Lattice {
     pub n: u8,
     pub sets: [u16; 16],
 }
+
+// The levels' numbers as bytes: a row is made of bytes side by side where nothing in it is as wide as an index.
+const NUMBERS: [u8; 16] = [0, 1, 2, 3, 4, 5, 6, 7, 8, 9, 10, 11, 12, 13, 14, 15];
 
 // A set may be shifted by 16, for n = 16, which its own width does not allow.
 fn wide(x: u16) -> u32
@@ -75,10 +78,10 @@ fn pair_ordered(s: &[u16; 16], i: usize, j: usize) -> bool
 {
     let a = s[i];
     let b = s[j];
-    if i == j {
-        return has(a, i);
-    }
     if !has(a, j) {
+        return true;
+    }
+    if i == j {
         return true;
     }
     if has(b, i) {
@@ -87,18 +90,20 @@ fn pair_ordered(s: &[u16; 16], i: usize, j: usize) -> bool
     a & b == b
 }
 
-fn row_ordered(s: &[u16; 16], n: usize, i: usize) -> bool
-    requires { ⌜ (n ≤ 16) × (i < 16) ⌝ }
-    ensures { λ r. ⌜ r ≡ rowOrdered (now (s .entry)) n i ⌝ }
+// It looks at all 16 levels and never leaves early, so that they are compared side by side; a level that is not used is in no set.
+fn row_ordered(s: &[u16; 16], i: usize) -> bool
+    requires { ⌜ i < 16 ⌝ }
+    ensures { λ r. ⌜ r ≡ rowOrdered (now (s .entry)) i ⌝ }
 {
+    let mut ordered = true;
     let mut j: usize = 0;
-    while j < n {
+    while j < 16 {
         if !pair_ordered(s, i, j) {
-            return false;
+            ordered = false;
         }
         j += 1;
     }
-    true
+    ordered && has(s[i], i)
 }
 
 // 8: the levels are in order.
@@ -108,7 +113,7 @@ fn in_order(s: &[u16; 16], n: usize) -> bool
 {
     let mut i: usize = 0;
     while i < n {
-        if !row_ordered(s, n, i) {
+        if !row_ordered(s, i) {
             return false;
         }
         i += 1;
@@ -143,32 +148,73 @@ fn turned(s: &[u16; 16]) -> [u16; 16]
     t
 }
 
-// The level whose set is x, or 255. It looks at all 16 sets and never leaves early, so that they are compared side by side.
-fn level_of(s: &[u16; 16], x: u16) -> u16
-    ensures { λ r. ⌜ r ≡ lastBelow 255 (isSet (now (s .entry)) x) 16 ⌝ }
+// The first level whose set is x, or 255. It goes over all 16 sets, whatever their number, so that the search has no count to keep.
+fn level_of(s: &[u16; 16], x: u16) -> usize
+    ensures { λ r. ⌜ r ≡ firstBelow 255 (isSet (now (s .entry)) x) 16 ⌝ }
 {
-    let mut found: u16 = 255;
     let mut k: usize = 0;
     while k < 16 {
         if s[k] == x {
-            found = k as u16;
+            return k;
         }
         k += 1;
     }
-    found
+    255
 }
 
-// The join of i and j: the level whose set is what their sets share. A set that is not used is no level's.
+// The join of i and j: the upper of the two where one is under the other, so that most pairs want no search; else the level whose set is
+// what their sets share. A set that is not used is no level's.
 fn join(s: &[u16; 16], n: usize, i: usize, j: usize) -> u8
     requires { ⌜ Sound n (now s) × ((i < n) × (j < n)) ⌝ }
     ensures { λ r. ⌜ r ≡ joinOf n (underIn (now (s .entry))) i j ⌝ }
 {
-    let k = level_of(s, s[i] & s[j]);
-    if (k as usize) < n { k as u8 } else { 255 }
+    let x = s[i];
+    let y = s[j];
+    if has(x, j) {
+        return j as u8;
+    }
+    if has(y, i) {
+        return i as u8;
+    }
+    let k = level_of(s, x & y);
+    if k < n { k as u8 } else { 255 }
 }
 
-// Entries from n on stay 255: they are of no pair of levels.
-fn join_row(s: &[u16; 16], n: usize, i: usize) -> [u8; 16]
+// Each of n levels is in the set x.
+fn is_all(x: u16, n: usize) -> bool
+    requires { ⌜ n ≤ 16 ⌝ }
+    ensures { λ r. ⌜ (r ≡ true → allBelow (bit x) n ≡ true) ⌝ }
+{
+    wide(x) + 1 == 1u32 << n
+}
+
+// The join of i and j where one is under the other: the upper one. The number of j comes as a byte too.
+fn upper(s: &[u16; 16], n: usize, i: usize, j: usize, other: u8) -> u8
+    requires { ⌜ Sound n (now s) × ((i < n) × (j < n)) ⌝ }
+    requires { ⌜ (comparable (now s) i j ≡ true) × (other ≡ j) ⌝ }
+    ensures { λ r. ⌜ r ≡ joinOf n (underIn (now (s .entry))) i j ⌝ }
+{
+    let own = i as u8;
+    if has(s[j], i) { own } else { other }
+}
+
+// Entries of a row from n on stay 255: they are of no pair of levels.
+fn upper_row(s: &[u16; 16], n: usize, i: usize) -> [u8; 16]
+    requires { ⌜ Sound n (now s) × (i < n) ⌝ }
+    requires { ⌜ allBelow (comparable (now s) i) n ≡ true ⌝ }
+    ensures { λ r. ⌜ r ≡ joinRow n (underIn (now (s .entry))) i ⌝ }
+{
+    let numbers = NUMBERS;
+    let mut row = [255u8; 16];
+    let mut j: usize = 0;
+    while j < n {
+        row[j] = upper(s, n, i, j, numbers[j]);
+        j += 1;
+    }
+    row
+}
+
+fn searched_row(s: &[u16; 16], n: usize, i: usize) -> [u8; 16]
     requires { ⌜ Sound n (now s) × (i < n) ⌝ }
     ensures { λ r. ⌜ r ≡ joinRow n (underIn (now (s .entry))) i ⌝ }
 {
@@ -181,19 +227,32 @@ fn join_row(s: &[u16; 16], n: usize, i: usize) -> [u8; 16]
     row
 }
 
-// The table of joins. Of the turned sets it is the table of meets.
-fn joins(s: &[u16; 16], n: usize) -> [[u8; 16]; 16]
+// Where each level is under level i or above it, which the sets of both orders show at once, the row wants no search.
+fn join_row<'a>(s: &'a [u16; 16], t: &'a [u16; 16], n: usize, i: usize) -> [u8; 16]
+    requires { ⌜ Sound n (now s) × (i < n) ⌝ }
+    requires { ⌜ Turned n (now s) (now t) ⌝ }
+    ensures { λ r. ⌜ r ≡ joinRow n (underIn (now (s .entry))) i ⌝ }
+{
+    if is_all(s[i] | t[i], n) {
+        return upper_row(s, n, i);
+    }
+    searched_row(s, n, i)
+}
+
+// The table of joins, by the sets s and those t of the turned order. Of the two in the other order it is the table of meets.
+fn joins<'a>(s: &'a [u16; 16], t: &'a [u16; 16], n: usize) -> [[u8; 16]; 16]
     requires { ⌜ Sound n (now s) ⌝ }
+    requires { ⌜ Turned n (now s) (now t) ⌝ }
     ensures { λ r. ⌜ r ≡ joinTable n (underIn (now (s .entry))) ⌝ }
 {
     let row = [255u8; 16];
-    let mut t = [row; 16];
+    let mut table = [row; 16];
     let mut i: usize = 0;
     while i < n {
-        t[i] = join_row(s, n, i);
+        table[i] = join_row(s, t, n, i);
         i += 1;
     }
-    t
+    table
 }
 
 fn row_full(row: [u8; 16], n: usize) -> bool
@@ -232,8 +291,8 @@ fn is_complete(s: &[u16; 16], n: usize) -> bool
     ensures { λ r. ⌜ r ≡ complete (withSets n (now (s .entry))) ⌝ }
 {
     let t = turned(s);
-    let least_above = joins(s, n);
-    let greatest_under = joins(&t, n);
+    let least_above = joins(s, &t, n);
+    let greatest_under = joins(&t, s, n);
     full(least_above, n) && full(greatest_under, n)
 }
 

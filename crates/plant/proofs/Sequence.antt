@@ -4,7 +4,7 @@ use Prim.Native.Nat.{ℕ, _+_, _*_, _≤_, _<_}
 use native.Mathlib.Omega.{arith}
 use mathlib.Core.Bool.{Bool, true, false, not, cond, _&&_, _||_}
 use mathlib.Core.List.{List}
-use lib.Dec.{eqb, leb}
+use lib.Dec.{eqb, leb, ltb}
 use lib.ListN.{getD, replicate, length-replicate}
 use borrow.Author.Tests.{leb-true, ltb-true, eq-eqb, ne-eqb, not-true, not-false, lt-ltb}
 use Rattle.base.specs.Below.{allBelow, anyBelow}
@@ -18,8 +18,8 @@ use Rattle.lattice.specs.Levels.{refusal}
 use Rattle.layout.specs.Layout.{limit}
 use Rattle.layout.specs.Header.{countOk}
 use Rattle.plant.specs.declared.Plant.{Plant}
-use Rattle.plant.specs.Plant.{latticeFrom, countsOf}
-use Rattle.plant.specs.Checks.{Fits, entryBelow, entryIs, countsIn, refusalsOf, firstNumber, latticeFails, numbersOk, levelsDistinct, requirementsNamed, latticeChecks, itemChecks, latticesRefusal, itemsRefusal, plantRefusal}
+use Rattle.plant.specs.Plant.{latticeFrom, groupOf, countsOf}
+use Rattle.plant.specs.Checks.{Fits, entryBelow, entryIs, countsIn, refusalsOf, firstNumber, latticeFails, tankFits, numbersOk, levelsDistinct, requirementsNamed, latticeChecks, itemChecks, latticesRefusal, itemsRefusal, plantRefusal}
 use Rattle.plant.proofs.Links.{entry-at}
 
 module _ (p : Plant) where
@@ -58,6 +58,16 @@ module _ (p : Plant) where
       let r = and-true (allBelow (entryBelow (p .requirement) (p .requirements)) (p .groups)) _ (q .1) in
       all-yes (p .groups) (entryBelow (p .requirement) 8)
       (λ g l. lt-ltb (getD (p .requirement) g 0) 8 (omega (arith, entry-at (p .requirement) (p .requirements) (p .groups) g (r .0) l)))
+
+  -- every tank's group has its places
+  pub groups-fit-places : Fits p → numbersOk p ≡ true → allBelow (entryBelow (p .group) 8) (p .tanks) ≡ true
+  unfolding numbersOk
+  groups-fit-places f e =
+      let q = and-true (allBelow (entryBelow (p .lattice) (p .lattices)) (p .requirements)) _ e in
+      let r = and-true (allBelow (entryBelow (p .requirement) (p .requirements)) (p .groups)) _ (q .1) in
+      let t = and-true (allBelow (tankFits p) (p .tanks)) _ (r .1) in
+      all-yes (p .tanks) (entryBelow (p .group) 8)
+      (λ o l. lt-ltb (groupOf p o) 8 (omega (arith, ltb-true (groupOf p o) (p .groups) (and-true (ltb (groupOf p o) (p .groups)) _ (all-at (p .tanks) (tankFits p) (t .0) o l) .0))))
 
   pub numbers-chain : p .lattices ≤ 8 → {numbers : List ℕ} → numbers ≡ refusalsOf (p .sizes) (p .sets) (p .lattices) → firstNumber numbers (p .lattices) ≡ latticesRefusal p
   unfolding latticesRefusal

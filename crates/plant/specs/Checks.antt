@@ -51,10 +51,6 @@ taskRightsIn rs groups t g = rightIn groups g (getD rs (t * 8 + g) 0)
 abbrev pub taskIn : ℕ → List ℕ → ℕ → ℕ → ℕ → Bool
 taskIn ns rs requirements groups t = noneFrom requirements ns && allBelow (taskRightsIn rs groups t) 8
 
--- two tanks of one group at one level
-abbrev pub atOneLevelIn : List ℕ → List ℕ → ℕ → ℕ → Bool
-atOneLevelIn group level a b = eqb (getD group a 0) (getD group b 0) && eqb (getD level a 0) (getD level b 0)
-
 -- the requirement is named where a right is
 abbrev pub requirementNamedIn : ℕ → ℕ → ℕ → Bool
 requirementNamedIn ns right requirement = implies (not (eqb right 0)) (bit ns requirement)

@@ -1,6 +1,6 @@
 // The plant's record, the rights, and opening's checks 3 and 7 to 12 on a record.
 ghost use mathlib.Core.Path.{_≡_};
-ghost use mathlib.Core.Bool.{true, not};
+ghost use mathlib.Core.Bool.{true};
 ghost use mathlib.Core.List.{[], _∷_};
 ghost use Prim.Native.Nat.{ℕ, _+_, _*_, _<_, _≤_};
 ghost use lib.ListN.{getD, replicate};
@@ -9,7 +9,7 @@ ghost use Rattle.base.specs.Bits.{noneFrom};
 ghost use Rattle.base.specs.Fill.{fill};
 ghost use Rattle.layout.specs.Header.{countOk};
 ghost use Rattle.plant.specs.Plant.{latticeFrom, groupOf, levelOf, noPlant};
-ghost use Rattle.plant.specs.Checks.{Fits, entryIs, entryBelow, entryClear, countsIn, tankIn, tankFits, rightIn, taskRightsIn, taskIn, taskFits, numbersOk, atOneLevelIn, levelsDistinct, requirementNamedIn, requirementsNamed, levelsFrom, levelsByGroup, refusalsOf, firstNumber, latticesRefusal, itemsRefusal, plantRefusal};
+ghost use Rattle.plant.specs.Checks.{Fits, entryIs, entryBelow, entryClear, countsIn, tankIn, tankFits, rightIn, taskRightsIn, taskIn, taskFits, numbersOk, levelsDistinct, requirementNamedIn, requirementsNamed, levelsFrom, levelsByGroup, refusalsOf, firstNumber, latticesRefusal, itemsRefusal, plantRefusal};
 ghost use Rattle.plant.specs.Right.{draw, return, sample, validRight, maskOf};
 use lattice::Lattice;
 use lattice::refusal_of;
@@ -304,38 +304,28 @@ fn numbers_ok(p: Plant) -> bool
     skids_fit(p)
 }
 
-// 11: tanks a and b are not of one group at one level.
-fn not_at_one_level<'a>(group: &'a [u8; 64], level: &'a [u8; 64], a: usize, b: usize) -> bool
-    requires { ⌜ (a < 64) × (b < 64) ⌝ }
-    ensures { λ r. ⌜ r ≡ not (atOneLevelIn (now (group .entry)) (now (level .entry)) a b) ⌝ }
+// The place of a group and a level in a table that has one for each of them.
+fn place(group: u8, level: u8) -> usize
+    requires { ⌜ group < 8 ⌝ }
+    ensures { λ r. ⌜ (r ≡ level * 8 + group) × (r < 2048) ⌝ }
 {
-    if group[a] != group[b] {
-        return true;
-    }
-    level[a] != level[b]
+    wide(level) * 8 + wide(group)
 }
 
-fn distinct_below<'a>(group: &'a [u8; 64], level: &'a [u8; 64], a: usize) -> bool
-    requires { ⌜ a < 64 ⌝ }
-    ensures { λ r. ⌜ r ≡ allBelow (λ b. not (atOneLevelIn (now (group .entry)) (now (level .entry)) a b)) a ⌝ }
-{
-    for b in 0..a {
-        if !not_at_one_level(group, level, a, b) {
-            return false;
-        }
-    }
-    true
-}
-
+// 11: no two tanks of one group at one level: each tank in turn finds its place free, and takes it.
 fn levels_distinct(p: Plant) -> bool
     requires { ⌜ Fits p ⌝ }
+    requires { ⌜ allBelow (entryBelow (p .group) 8) (p .tanks) ≡ true ⌝ }
     ensures { λ r. ⌜ r ≡ levelsDistinct p ⌝ }
 {
+    let mut taken = [0u8; 2048];
     let n = p.tanks as usize;
     for a in 0..n {
-        if !distinct_below(&p.group, &p.level, a) {
+        let at = place(p.group[a], p.level[a]);
+        if taken[at] == 1 {
             return false;
         }
+        taken[at] = 1;
     }
     true
 }

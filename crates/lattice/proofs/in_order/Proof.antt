@@ -11,7 +11,7 @@ use Rattle.lattice.proofs.in_order.Statement.{statement}
 use Rattle.lattice.proofs.in_order.Tie as tie
 
 abbrev Inv-loop : tie.InvT-loop
-Inv-loop s n i₀ i = (i ≤ n) × (allBelow (rowOrdered s n) i ≡ true)
+Inv-loop s n i₀ i = (i ≤ n) × (allBelow (rowOrdered s) i ≡ true)
 
 abbrev μ-loop : tie.MeasureT-loop
 μ-loop s n i₀ i = n - i
@@ -19,7 +19,7 @@ abbrev μ-loop : tie.MeasureT-loop
 stops : tie.Need-returns Inv-loop μ-loop
 stops c =
     let o = c .before .before .before .before in
-    all-off (rowOrdered (o .args .s .now) (o .args .n)) _ _ (search needs) (c .if1 .taken) (c .before .row-ordered .ensures) ∙ pairs-ordered _ _ (o .pre)
+    all-off (rowOrdered (o .args .s .now)) _ _ (search needs) (c .if1 .taken) (c .before .row-ordered .ensures) ∙ pairs-ordered _ _ (o .pre)
 
 ends : tie.Need-returns-2 Inv-loop μ-loop
 ends c = all-ends _ _ _ (search needs) (search needs) (c .before .loop .inv .1) ∙ pairs-ordered _ _ (c .before .before .pre)

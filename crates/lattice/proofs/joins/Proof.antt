@@ -10,10 +10,10 @@ use Rattle.lattice.proofs.joins.Statement.{statement}
 use Rattle.lattice.proofs.joins.Tie as tie
 
 abbrev Inv-loop : tie.InvT-loop
-Inv-loop s n t₀ i₀ t i = (i ≤ n) × (t ≡ fill (joinRow n (underIn s)) t₀ i)
+Inv-loop s t n table₀ i₀ table i = (i ≤ n) × (table ≡ fill (joinRow n (underIn s)) table₀ i)
 
 abbrev μ-loop : tie.MeasureT-loop
-μ-loop s n t₀ i₀ t i = n - i
+μ-loop s t n table₀ i₀ table i = n - i
 
 pub joins-spec : {M : Type 1} → statement M
 joins-spec =

@@ -2,7 +2,7 @@
 use Rattle.base.proofs.Chain.{checks}
 use Rattle.base.proofs.Both.{held}
 use Rattle.plant.specs.Checks.{itemsRefusal}
-use Rattle.plant.proofs.Sequence.{requirements-fit-set}
+use Rattle.plant.proofs.Sequence.{groups-fit-places, requirements-fit-set}
 use borrow.Author.Needs.{needs}
 use Rattle.plant.proofs.items_refusal.Statement.{statement}
 use Rattle.plant.proofs.items_refusal.Tie as tie
@@ -10,6 +10,9 @@ use Rattle.plant.proofs.items_refusal.Tie as tie
 returns : tie.Need-returns
 unfolding itemsRefusal
 returns c = search checks depth 8
+
+levels-distinct-requires : tie.Need-levels-distinct-requires
+levels-distinct-requires c κs = (search needs, groups-fit-places _ (search needs) (held _ (c .before .numbers-ok .ensures) (c .if1 .left)))
 
 returns-2 : tie.Need-returns-2
 unfolding itemsRefusal
@@ -31,4 +34,4 @@ pub items-refusal-spec : {M : Type 1} → statement M
 unfolding itemsRefusal
 items-refusal-spec =
     tie.close
-    (tie.spec (λ c κs. search needs) returns (λ c κs. search needs) returns-2 requirements-named-requires returns-3 returns-4)
+    (tie.spec (λ c κs. search needs) returns levels-distinct-requires returns-2 requirements-named-requires returns-3 returns-4)
