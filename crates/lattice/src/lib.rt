@@ -14,7 +14,7 @@ pub struct Lattice {
     pub sets: [u16; 16],
 }
 
-// The levels' numbers as bytes: a row is made of bytes side by side where nothing in it is as wide as an index.
+// The levels' numbers as bytes, so that a row is made of bytes alone.
 const NUMBERS: [u8; 16] = [0, 1, 2, 3, 4, 5, 6, 7, 8, 9, 10, 11, 12, 13, 14, 15];
 
 // A set may be shifted by 16, for n = 16, which its own width does not allow.
@@ -90,7 +90,7 @@ fn pair_ordered(s: &[u16; 16], i: usize, j: usize) -> bool
     a & b == b
 }
 
-// It looks at all 16 levels and never leaves early, so that they are compared side by side; a level that is not used is in no set.
+// It looks at all 16 levels and never leaves early, so that the loop has a fixed length; a level that is not used is in no set.
 fn row_ordered(s: &[u16; 16], i: usize) -> bool
     requires { ⌜ i < 16 ⌝ }
     ensures { λ r. ⌜ r ≡ rowOrdered (now (s .entry)) i ⌝ }
