@@ -1,6 +1,8 @@
 -- What the tests over the indexes below a bound say: each index, some index, the lowest index. Assumes nothing.
 use mathlib.Core.Path.{_≡_, refl, sym, ap, ap₂, _∙_}
 use Prim.Native.Nat.{ℕ, zero, suc, _+_, _≤_, _<_}
+use lib.Dec.{eqb}
+use borrow.Author.Tests.{eq-eqb, ne-eqb}
 use native.Mathlib.Omega.{arith}
 use native.Mathlib.Decide.{ℕ-discrete, decLt}
 use mathlib.Core.Bool.{Bool, true, false, cond, not, _&&_, _||_}
@@ -76,3 +78,16 @@ lowest-unique n p k j a b = elim (decLt k j) [
 -- an index that passes, from the test that some does
 pub any-some : (n : ℕ) (p : ℕ → Bool) → anyBelow p n ≡ true → (k : ℕ) × ((k < n) × (p k ≡ true))
 any-some n p e = let r = first-is 0 n p e in (firstBelow 0 p n, (r .below, r .passes))
+
+-- what `firstBelow` gives is not `none` where some index passes
+pub first-found : (none n : ℕ) (p : ℕ → Bool) → n ≤ none → not (eqb (firstBelow none p n) none) ≡ anyBelow p n
+first-found none n p a = split (anyBelow p n)
+    (λ h. rw h (ap not (ne-eqb (firstBelow none p n) none (λ e. omega (arith, first-is none n p h .below)))))
+    (λ h. rw h (ap not (eq-eqb _ _ (first-none none n p h))))
+
+-- two tests that agree below the bound have the same lowest index
+pub first-same : (none n : ℕ) (p q : ℕ → Bool) → ((i : ℕ) → i < n → p i ≡ q i) → firstBelow none p n ≡ firstBelow none q n
+unfolding firstBelow
+first-same none zero p q h = refl
+first-same none (suc n) p q h =
+    rw (any-same n p q (λ i l. h i (omega arith)), first-same none n p q (λ i l. h i (omega arith)), h n (omega arith))

@@ -7,7 +7,6 @@ pub mod Filled
 pub mod Overlaid
 pub mod Table
 pub mod Both
-pub mod Last
 pub mod Gather
 pub mod Shared
 pub mod Meaning

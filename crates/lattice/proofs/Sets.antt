@@ -13,8 +13,7 @@ use borrow.Author.Tests.{eqb-true, eqb-false, eq-eqb, not-true, lt-ltb, le-ltb}
 use Rattle.base.specs.Below.{allBelow, anyBelow, firstBelow, implies}
 use Rattle.base.specs.Bits.{bit}
 use Rattle.base.proofs.Logic.{split, true-false, same-test, and-true, and-both, implies-true, implies-intro, not-is-true, or-cases, or-left, or-right}
-use Rattle.base.proofs.Below.{all-at, all-yes, any-yes, any-no, first-is, first-none, lowest-unique}
-use Rattle.base.proofs.Last.{first-same}
+use Rattle.base.proofs.Below.{all-at, all-yes, any-yes, any-no, first-is, first-none, lowest-unique, first-same}
 use Rattle.base.proofs.Shared.{Within, shared, shared-at, zero-bits}
 use Rattle.lattice.specs.Order.{Order, Join}
 use Rattle.lattice.specs.Levels.{Layout, ordered, isJoin, joinOf}

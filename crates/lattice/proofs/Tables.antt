@@ -7,9 +7,8 @@ use mathlib.Core.List.{List, []}
 use lib.Dec.{eqb}
 use lib.ListN.{replicate, length-replicate}
 use Rattle.base.specs.Below.{allBelow, anyBelow}
-use Rattle.base.proofs.Below.{all-same}
+use Rattle.base.proofs.Below.{all-same, first-found}
 use Rattle.base.proofs.Filled.{fill-at}
-use Rattle.base.proofs.Last.{first-found}
 use Rattle.lattice.specs.Levels.{isJoin, joined, joinOf}
 use Rattle.lattice.specs.Table.{blank, joinRow, joinTable, entryFull, rowFull, rowFullAt, tableFull}
 

@@ -134,7 +134,7 @@ fn put_held(text: &mut [u8], at: usize, held: &[u8]) -> usize
 
 // A count is one byte, so whatever the batch answered, its rights take at most 3 * 255 bytes of `results` and 12 * 255 of `text`. A request's
 // number has at most five digits, so an answer takes at most ten.
-pub fn print_outcome(number: u8, results: &[u8], n: usize, text: &mut [u8]) -> usize
+fn print_outcome(number: u8, results: &[u8], n: usize, text: &mut [u8]) -> usize
     requires { ⌜ (n < 100000) × ((n + 766 ≤ length (now results)) × (n * 10 + 3069 ≤ length (now text))) ⌝ }
     ensures { λ r. ⌜ Wrote (outcomeLines number n (now (results .entry))) (now (text .entry)) 0 (now (text .exit)) r ⌝ }
 {
