@@ -7,7 +7,7 @@ use native.Mathlib.Nat.{le-of-suc-le-suc, not-suc-le-zero, eq-or-lt-of-le, le-an
 use native.Mathlib.Numerals.{add-one}
 use native.Mathlib.Omega.{arith}
 use lib.ListN.{length, getD, set, length-set}
-use lib.Seq.{getD-set-same, getD-set-other, set-getD, set-set}
+use lib.Seq.{getD-set-same, getD-set-other}
 use Rattle.base.specs.Fill.{fill}
 
 module _ {A : Type 0} (f : ℕ → A) (xs : List A) where
@@ -43,15 +43,3 @@ module _ {A : Type 0} (f : ℕ → A) (xs : List A) where
   fill-ends i n a b h = h ∙ ap (fill f xs) (le-antisymm a b)
 
 pub ruleset filled = (fill-none, fill-next, fill-ends)
-
--- A loop in a loop that stores g i j at [i][j]: t₀ is the table where row i begins, and every row was `row` before.
-module _ {A : Type 0} (g : ℕ → ℕ → A) (row : List A) (i : ℕ) where
-  pub nest-none : (f : ℕ → List A) (xs t : List (List A)) (d : List A) → t ≡ fill f xs i → getD xs i d ≡ row → t ≡ set t i (fill (g i) row 0)
-  unfolding fill
-  nest-none f xs t d e r = sym (set-getD t i d) ∙ ap (λ (l : List A). set t i l) (ap (λ (u : List (List A)). getD u i d) e ∙ fill-past f xs i i d (omega arith) ∙ r)
-
-  pub nest-next : (t₀ : List (List A)) (j : ℕ) {t : List (List A)} {v : A} (d : List A) → i < length t₀ → t ≡ set t₀ i (fill (g i) row j) → v ≡ g i j → set t i (set (getD t i d) j v) ≡ set t₀ i (fill (g i) row (j + 1))
-  nest-next t₀ j d h e q = rw (e, getD-set-same t₀ i (fill (g i) row j) d h, set-set, fill-next (g i) row j refl q)
-
-  pub nest-ends : (n j : ℕ) (xs t₀ : List (List A)) {t : List (List A)} → j ≡ n → t ≡ set t₀ i (fill (g i) row j) → t₀ ≡ fill (λ (k : ℕ). fill (g k) row n) xs i → t ≡ fill (λ (k : ℕ). fill (g k) row n) xs (i + 1)
-  nest-ends n j xs t₀ q e h = e ∙ fill-next (λ (k : ℕ). fill (g k) row n) xs i h (ap (fill (g i) row) q)
