@@ -17,7 +17,10 @@ tenth n = div-add-mod' n 10
 last-digit : (n : ℕ) → n % 10 < 10
 last-digit n = mod-lt n (omega arith)
 
-pub tenth-less : (n : ℕ) → 10 ≤ n → n / 10 < n
+pub tenth-some : (n : ℕ) → 10 ≤ n → 0 < n / 10
+tenth-some n h = omega (arith, tenth n, last-digit n)
+
+tenth-less : (n : ℕ) → 10 ≤ n → n / 10 < n
 tenth-less n h = omega (arith, tenth n)
 
 -- more places than n has change nothing

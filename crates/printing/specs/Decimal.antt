@@ -3,7 +3,7 @@ use Prim.Native.Nat.{ℕ, zero, suc, _+_, _-_, _*_, _/_, _%_, _≤_, _<_}
 use mathlib.Core.Path.{_≡_}
 use mathlib.Core.Bool.{cond}
 use mathlib.Core.List.{List, [], _∷_, _++_}
-use lib.Dec.{ltb}
+use lib.Dec.{ltb, eqb}
 use lib.ListN.{length, getD}
 
 -- the character of a digit: `0` has the code 48
@@ -18,6 +18,10 @@ digitsIn (suc most) n = cond (ltb n 10) (digit n ∷ []) (digitsIn most (n / 10)
 -- A number has no more digits than one more than itself.
 unfoldable pub decimal : ℕ → List ℕ
 decimal n = digitsIn (suc n) n
+
+-- The last digit of m, or nothing where m is 0: `place (n / 100)` is what the hundreds of n put into its text.
+abbrev pub place : ℕ → List ℕ
+place m = cond (eqb m 0) [] (digit (m % 10) ∷ [])
 
 -- the number that a text of digits says, read from the left; `seen` is what the digits before it say
 unfoldable pub readOn : ℕ → List ℕ → ℕ

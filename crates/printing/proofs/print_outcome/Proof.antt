@@ -35,7 +35,7 @@ put-answers-requires c κs =
     let s = t .before .before .before in
     let results = s .args .results .now in
     let h = start-room (s .args .text .now) (accepted-lines (s .args .number) (s .args .n) (s .args .results .now) (t .if1 .left)) (room (t .before .before)) in
-    (omega (arith, s .pre .1 .0), front-room (answerLines results (s .args .n)) (heldLines (drop (s .args .n) results)) (s .args .text .now) 0 h)
+    (s .pre .0, (omega (arith, s .pre .1 .0), front-room (answerLines results (s .args .n)) (heldLines (drop (s .args .n) results)) (s .args .text .now) 0 h))
 
 put-held-requires : tie.Need-put-held-requires
 put-held-requires c κs =

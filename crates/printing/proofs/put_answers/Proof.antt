@@ -20,14 +20,14 @@ put-pair-requires c κs =
     let t = c .before .before in
     let l = t .before in
     let s = l .before .before .before in
-    wrote-room (answerLineAt (s .args .answers .now)) (s .args .text .now) (s .args .at) (l .loop .i) (s .args .n) (t .loop-test .taken) (s .pre .1) (l .loop .inv .1 .1)
+    (search needs, wrote-room (answerLineAt (s .args .answers .now)) (s .args .text .now) (s .args .at) (l .loop .i) (s .args .n) (t .loop-test .taken) (s .pre .1 .1) (l .loop .inv .1 .1))
 
 loop-again : tie.Need-loop-again Inv-loop μ-loop
 loop-again c =
     let t = c .before .before .before .before .before in
     let l = t .before in
     let s = l .before .before .before in
-    (search needs, (search needs, wrote-more (answerLineAt (s .args .answers .now)) (s .args .text .now) (s .args .at) (l .loop .i) (s .args .n) (t .loop-test .taken) (s .pre .1) (l .loop .inv .1 .1) (c .before .before .put-pair .ensures)))
+    (search needs, (search needs, wrote-more (answerLineAt (s .args .answers .now)) (s .args .text .now) (s .args .at) (l .loop .i) (s .args .n) (t .loop-test .taken) (s .pre .1 .1) (l .loop .inv .1 .1) (c .before .before .put-pair .ensures)))
 
 pub put-answers-spec : {M : Type 1} → statement M
 put-answers-spec =
@@ -36,6 +36,7 @@ put-answers-spec =
     Inv-loop
     μ-loop
     (λ c. search (needs, written))
+    (λ c. search needs)
     (λ c. search needs)
     (λ c. search needs)
     put-pair-requires

@@ -11,7 +11,7 @@ put-byte-requires : tie.Need-put-byte-requires
 put-byte-requires c κs =
     let w = c .before .before .before in
     let s = w .before .before .before in
-    omega (arith, rest-room (decimal (s .args .n)) (s .args .end ∷ []) (s .args .text .now) (s .args .at) (s .pre) (w .put-number .ensures))
+    omega (arith, rest-room (decimal (s .args .n)) (s .args .end ∷ []) (s .args .text .now) (s .args .at) (s .pre .1) (w .put-number .ensures))
 
 pub put-field-spec : {M : Type 1} → statement M
-put-field-spec = tie.close (tie.spec (λ c κs. search joined) put-byte-requires (λ c. search needs) (λ c. search joined))
+put-field-spec = tie.close (tie.spec (λ c κs. (search needs, search joined)) put-byte-requires (λ c. search needs) (λ c. search joined))

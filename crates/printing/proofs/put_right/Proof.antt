@@ -7,13 +7,15 @@ use Rattle.printing.proofs.put_right.Statement.{statement}
 use Rattle.printing.proofs.put_right.Tie as tie
 
 put-field-requires : tie.Need-put-field-requires
-put-field-requires c κs = let s = c .before .before in first-room (decimal (s .args .skid)) (decimal (s .args .tank)) (decimal (s .args .right) ∷ []) (s .args .text .now) (s .args .at) (s .pre)
+put-field-requires c κs =
+    let s = c .before .before in
+    (search needs, first-room (decimal (s .args .skid)) (decimal (s .args .tank)) (decimal (s .args .right) ∷ []) (s .args .text .now) (s .args .at) (s .pre))
 
 put-pair-requires : tie.Need-put-pair-requires
 put-pair-requires c κs =
     let w = c .before .before .before in
     let s = w .before .before .before in
-    others-room (decimal (s .args .skid)) (decimal (s .args .tank)) (decimal (s .args .right) ∷ []) (s .args .text .now) (s .args .at) (s .pre) (w .put-field .ensures)
+    (search needs, others-room (decimal (s .args .skid)) (decimal (s .args .tank)) (decimal (s .args .right) ∷ []) (s .args .text .now) (s .args .at) (s .pre) (w .put-field .ensures))
 
 returns : tie.Need-returns
 returns c =
