@@ -1,14 +1,14 @@
--- Numbers read as sets: what AND, equality and `noneFrom` say of each bit. Assumes nothing.
+-- Numbers read as sets: what AND, OR, XOR, equality and `noneFrom` say of each bit. Assumes nothing.
 use mathlib.Core.Path.{_≡_, refl, sym, ap, ap₂, subst, _∙_}
-use mathlib.Core.Bool.{Bool, true, false, _&&_}
-use Prim.Native.Nat.{ℕ, zero, suc, _+_, _*_, _/_, _%_, _^_, _-_, _≤_, _<_, min}
-use native.Mathlib.Nat.{mul-add-mod-self-right, div-add-mod', div-one, mod-lt, pow-suc, div-div-eq-div-mul, mul-comm, zero-lt-suc, div-lt-iff-lt-mul, div-eq-of-lt, zero-div, lt-of-le-of-lt, div-le-self}
+use mathlib.Core.Bool.{Bool, true, false, cond, not, _&&_, _||_}
+use Prim.Native.Nat.{ℕ, zero, suc, _+_, _*_, _/_, _%_, _^_, _-_, _≤_, _<_, min, max}
+use native.Mathlib.Nat.{mul-add-mod-self-right, div-add-mod', div-one, mod-lt, pow-suc, div-div-eq-div-mul, mul-comm, zero-lt-suc, div-lt-iff-lt-mul, div-eq-of-lt, zero-div, lt-of-le-of-lt, div-le-self, one-mul}
 use native.Mathlib.Omega.{arith}
 use native.Mathlib.Decide.{decLt}
 use lib.Dec.{eqb}
-use lib.Bits.{bitAnd, and-shr, and-mod, and-step, and-lt}
-use lib.Pow.{shr-shr, pow-pos, pow-mono}
-use borrow.Author.Tests.{eqb-true, eqb-false, eq-eqb}
+use lib.Bits.{bitAnd, bitOr, bitXor, differ, and-shr, and-step, or-shr, or-step, xor-shr, xor-step, shifted-even}
+use lib.Pow.{shr-shr, shl-shr, pow-pos, pow-add, pow-lt}
+use borrow.Author.Tests.{eqb-true, eqb-false, eq-eqb, ne-eqb}
 use Rattle.base.specs.Bits.{bit, noneFrom}
 use Rattle.base.proofs.Logic.{split, true-false, same-test, and-true, and-both}
 
@@ -44,25 +44,72 @@ bits-same (suc n) x y a b h =
     let r : x % 2 ≡ y % 2 = low-same x y (sym (low-bit x) ∙ h 0 (omega arith) ∙ low-bit y) in
     sym (div-add-mod' x 2) ∙ ap₂ (λ (u v : ℕ). u * 2 + v) q r ∙ div-add-mod' y 2
 
-and-digit : (u v : ℕ) → u < 2 → v < 2 → eqb (min u v % 2) 1 ≡ eqb u 1 && eqb v 1
-and-digit zero zero a b = refl
-and-digit zero (suc zero) a b = refl
-and-digit (suc zero) zero a b = refl
-and-digit (suc zero) (suc zero) a b = refl
-and-digit (suc (suc u)) zero a b = absurd (omega arith)
-and-digit (suc (suc u)) (suc v) a b = absurd (omega arith)
-and-digit zero (suc (suc v)) a b = absurd (omega arith)
-and-digit (suc zero) (suc (suc v)) a b = absurd (omega arith)
+-- what holds of the four pairs of digits holds of any two
+digits : (P : ℕ → ℕ → Type 0) → P 0 0 → P 0 1 → P 1 0 → P 1 1 → (u v : ℕ) → u < 2 → v < 2 → P u v
+digits P a b c d zero zero m n = a
+digits P a b c d zero (suc zero) m n = b
+digits P a b c d (suc zero) zero m n = c
+digits P a b c d (suc zero) (suc zero) m n = d
+digits P a b c d (suc (suc u)) v m n = absurd (omega arith)
+digits P a b c d zero (suc (suc v)) m n = absurd (omega arith)
+digits P a b c d (suc zero) (suc (suc v)) m n = absurd (omega arith)
 
-and-low : (a b : ℕ) → eqb (bitAnd a b % 2) 1 ≡ eqb (a % 2) 1 && eqb (b % 2) 1
-and-low a b =
-    ap (λ (m : ℕ). eqb (m % 2) 1) (and-step a b)
-    ∙ ap (λ (m : ℕ). eqb m 1) (mul-add-mod-self-right (bitAnd (a / 2) (b / 2)) 2 (min (a % 2) (b % 2)))
-    ∙ and-digit (a % 2) (b % 2) (mod-lt a (zero-lt-suc 1)) (mod-lt b (zero-lt-suc 1))
+-- An operation f that makes its digits by g: bit i of what it makes is `with` of the two bits i.
+module _ (f g : ℕ → ℕ → ℕ) (with : Bool → Bool → Bool)
+    (step : (a b : ℕ) → f a b ≡ f (a / 2) (b / 2) * 2 + g (a % 2) (b % 2))
+    (shift : (a b k : ℕ) → f a b / 2 ^ k ≡ f (a / 2 ^ k) (b / 2 ^ k))
+    (digit : (u v : ℕ) → u < 2 → v < 2 → eqb (g u v % 2) 1 ≡ with (eqb u 1) (eqb v 1)) where
+  by-low : (a b : ℕ) → eqb (f a b % 2) 1 ≡ with (eqb (a % 2) 1) (eqb (b % 2) 1)
+  by-low a b =
+      ap (λ (m : ℕ). eqb (m % 2) 1) (step a b)
+      ∙ ap (λ (m : ℕ). eqb m 1) (mul-add-mod-self-right (f (a / 2) (b / 2)) 2 (g (a % 2) (b % 2)))
+      ∙ digit (a % 2) (b % 2) (mod-lt a (zero-lt-suc 1)) (mod-lt b (zero-lt-suc 1))
 
--- bit i of x AND y
+  by-digits : (x y i : ℕ) → bit (f x y) i ≡ with (bit x i) (bit y i)
+  by-digits x y i = ap (λ (m : ℕ). eqb (m % 2) 1) (shift x y i) ∙ by-low (x / 2 ^ i) (y / 2 ^ i)
+
+-- bit i of x AND y, x OR y, x XOR y
 pub and-bit : (x y i : ℕ) → bit (bitAnd x y) i ≡ bit x i && bit y i
-and-bit x y i = ap (λ (m : ℕ). eqb (m % 2) 1) (and-shr x y i) ∙ and-low (x / 2 ^ i) (y / 2 ^ i)
+and-bit = by-digits bitAnd min _&&_ and-step and-shr (digits (λ u v. eqb (min u v % 2) 1 ≡ eqb u 1 && eqb v 1) refl refl refl refl)
+
+pub or-bit : (x y i : ℕ) → bit (bitOr x y) i ≡ bit x i || bit y i
+or-bit = by-digits bitOr max _||_ or-step or-shr (digits (λ u v. eqb (max u v % 2) 1 ≡ eqb u 1 || eqb v 1) refl refl refl refl)
+
+xor-bit : (x y i : ℕ) → bit (bitXor x y) i ≡ cond (bit x i) (not (bit y i)) (bit y i)
+xor-bit =
+    by-digits bitXor differ (λ a b. cond a (not b) b) xor-step xor-shr
+    (digits (λ u v. eqb (differ u v % 2) 1 ≡ cond (eqb u 1) (not (eqb v 1)) (eqb v 1)) refl refl refl refl)
+
+-- 2 ^ i is the set of i alone
+higher-bit : (i j : ℕ) → j < i → 2 ^ i / 2 ^ j % 2 ≡ 0
+higher-bit i j l =
+    let s : suc (i - suc j) + j ≡ i = omega arith in
+    ap (λ (m : ℕ). 2 ^ m / 2 ^ j % 2) (sym s) ∙ ap (λ (m : ℕ). m / 2 ^ j % 2) (pow-add 2 (suc (i - suc j)) j)
+    ∙ ap (λ (m : ℕ). m % 2) (shl-shr (2 ^ suc (i - suc j)) j)
+    ∙ ap (λ (m : ℕ). m % 2) (sym (one-mul (2 ^ suc (i - suc j)))) ∙ shifted-even 1 (i - suc j)
+
+own-bit : (i : ℕ) → 2 ^ i / 2 ^ i % 2 ≡ 1
+own-bit i = ap (λ (m : ℕ). m / 2 ^ i % 2) (sym (one-mul (2 ^ i))) ∙ ap (λ (m : ℕ). m % 2) (shl-shr 1 i)
+
+lower-bit : (i j : ℕ) → i < j → 2 ^ i / 2 ^ j % 2 ≡ 0
+lower-bit i j l = ap (λ (m : ℕ). m % 2) (div-eq-of-lt (pow-lt l))
+
+power-bit : (i j : ℕ) → bit (2 ^ i) j ≡ eqb i j
+power-bit i j = elim (decLt i j) [
+  | yes l ↦ rw (lower-bit i j l) (sym (ne-eqb i j (λ e. omega (arith, e))))
+  | no l ↦ elim (decLt j i) [
+    | yes m ↦ rw (higher-bit i j m) (sym (ne-eqb i j (λ e. omega (arith, e))))
+    | no m ↦ let e : i ≡ j = omega arith in rw (← e, own-bit i) (sym (eq-eqb i i refl))
+  ]
+]
+
+-- a set with i, without i
+pub without-bit : (x i : ℕ) → bit x i ≡ true → (j : ℕ) → bit (bitXor x (2 ^ i)) j ≡ bit x j && not (eqb i j)
+without-bit x i h j =
+    xor-bit x (2 ^ i) j ∙ ap (λ b. cond (bit x j) (not b) b) (power-bit i j)
+    ∙ split (bit x j)
+    (λ e. rw e)
+    (λ e. rw (e, ne-eqb i j (λ q. true-false (sym h ∙ ap (bit x) q ∙ e))))
 
 self-lt-pow : (n : ℕ) → n < 2 ^ n
 self-lt-pow zero = pow-pos 0

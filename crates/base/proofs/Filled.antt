@@ -7,7 +7,7 @@ use native.Mathlib.Nat.{le-of-suc-le-suc, not-suc-le-zero, eq-or-lt-of-le, le-an
 use native.Mathlib.Numerals.{add-one}
 use native.Mathlib.Omega.{arith}
 use lib.ListN.{length, getD, set, length-set}
-use lib.Seq.{getD-set-same, getD-set-other}
+use lib.Seq.{getD-set-same, getD-set-other, ext-getD}
 use Rattle.base.specs.Fill.{fill}
 
 module _ {A : Type 0} (f : ℕ → A) (xs : List A) where
@@ -41,5 +41,21 @@ module _ {A : Type 0} (f : ℕ → A) (xs : List A) where
 
   pub fill-ends : (i n : ℕ) {ys : List A} → i ≤ n → n ≤ i → ys ≡ fill f xs i → ys ≡ fill f xs n
   fill-ends i n a b h = h ∙ ap (fill f xs) (le-antisymm a b)
+
+pub fill-same : {A : Type 0} (f h : ℕ → A) (xs : List A) (n : ℕ) → ((k : ℕ) → k < n → f k ≡ h k) → fill f xs n ≡ fill h xs n
+unfolding fill
+fill-same f h xs zero q = refl
+fill-same f h xs (suc n) q = rw (fill-same f h xs n (λ k l. q k (omega arith)), q n (omega arith))
+
+-- A list filled to its end holds nothing of what it held before, so that two fills are one.
+module _ {A : Type 0} (d : A) (f g h : ℕ → A) (xs : List A) (n : ℕ) (e : length xs ≡ n) where
+  pub fill-again : ((k : ℕ) → k < n → f k ≡ h k) → fill f (fill g xs n) n ≡ fill h xs n
+  fill-again q =
+      let long : length (fill f (fill g xs n) n) ≡ n = fill-length f (fill g xs n) n ∙ fill-length g xs n ∙ e in
+      let room : n ≤ length (fill g xs n) = omega (arith, fill-length g xs n) in
+      ext-getD d _ _ (long ∙ sym (fill-length h xs n ∙ e))
+      (λ k l.
+      let b : k < n = subst (λ (m : ℕ). k < m) long l in
+      fill-at f (fill g xs n) n k d room b ∙ q k b ∙ sym (fill-at h xs n k d (omega arith) b))
 
 pub ruleset filled = (fill-none, fill-next, fill-ends)

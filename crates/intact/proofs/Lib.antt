@@ -1,2 +1,3 @@
+pub mod Noted
 pub mod Views
 pub mod Zeros

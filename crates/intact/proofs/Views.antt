@@ -3,12 +3,13 @@ use mathlib.Core.Path.{_≡_, sym, ap, ap₂, _∙_}
 use Prim.Native.Nat.{ℕ, _+_, _*_, _<_}
 use native.Mathlib.Omega.{arith}
 use mathlib.Core.Bool.{Bool, true, false, _&&_, _||_}
+use mathlib.Core.List.{List}
 use lib.Dec.{eqb}
-use lib.ListN.{getD, replicate, length-replicate}
+use lib.ListN.{getD, replicate, length-replicate, getD-replicate}
 use borrow.Author.Tests.{lt-ltb, eq-eqb, ne-eqb}
 use Rattle.base.specs.Below.{allBelow}
 use Rattle.base.proofs.Below.{all-yes, all-at, all-same}
-use Rattle.base.proofs.Filled.{fill-at}
+use Rattle.base.proofs.Filled.{fill-at, fill-past}
 use Rattle.base.proofs.Logic.{split, same-test, and-true, and-intro}
 use Rattle.plant.specs.declared.Plant.{Plant}
 use Rattle.plant.specs.Plant.{rightsOf}
@@ -20,7 +21,11 @@ use Rattle.choice.specs.Choice.{unset}
 use Rattle.rules.specs.declared.Monitor.{Monitor}
 use Rattle.rules.specs.Intact.{levelOk, taskOk, tankOk, intactView}
 use Rattle.rules.specs.Record.{viewOf, intact}
-use Rattle.intact.specs.Raw.{levelsFrom, most, rowIn, taskLevelsIn, skidLevelsIn, taskIn, chosenIn, skidRunsIn, partsIn}
+use Rattle.intact.specs.Raw.{levelsFrom, levelsByRequirement, most, Free, rowIn, taskLevelsIn, skidLevelsIn, taskIn, chosenIn, skidRunsIn, partsIn}
+
+-- past the requirements every level passes
+pub most-free : (sizes lattice : List ℕ) (requirements : ℕ) → Free (levelsByRequirement sizes lattice requirements) requirements
+most-free sizes lattice requirements d h l = fill-past (levelsFrom sizes lattice) (replicate 8 255) requirements d 0 h ∙ getD-replicate 8 d 255 0 l
 
 -- two tests of each index, asked one after the other or at once
 all-both : (n : ℕ) (p q : ℕ → Bool) → allBelow (λ i. p i && q i) n ≡ allBelow p n && allBelow q n
@@ -33,7 +38,7 @@ module _ (P : Plant) (m : Monitor) (F : Fits P) (s : ℕ) (l : s < P .skids) whe
   unfolding levelOk viewOf
   level-same t d a b =
       let r = F .requirements-fit in
-      rw (lt-ltb s (P .skids) l, lt-ltb t (P .tasks) a, lt-ltb d (P .requirements) b, fill-at (levelsFrom (P .sizes) (P .lattice)) (replicate 8 0) (P .requirements) d 0 (omega (arith, length-replicate {A = ℕ} 8 0)) b)
+      rw (lt-ltb s (P .skids) l, lt-ltb t (P .tasks) a, lt-ltb d (P .requirements) b, fill-at (levelsFrom (P .sizes) (P .lattice)) (replicate 8 255) (P .requirements) d 0 (omega (arith, length-replicate {A = ℕ} 8 255)) b)
 
   levels-same : allBelow (λ t. allBelow (λ d. levelOk P (viewOf P m s) t d) (P .requirements)) (P .tasks) ≡ skidLevelsIn (m .levels) (most P) (P .requirements) (P .tasks) s
   levels-same = all-same (P .tasks) _ (taskLevelsIn (m .levels) (most P) (P .requirements) s) (λ t a. all-same (P .requirements) _ (rowIn (m .levels) (most P) (s * 16 + t)) (λ d b. level-same t d a b))

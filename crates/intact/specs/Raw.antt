@@ -1,6 +1,7 @@
 -- Test 20 on the record's flat lists, in the order in which the code reads them. proofs/Views has that within the counts this is the test
 -- of each skid's view.
-use Prim.Native.Nat.{ℕ, _+_, _*_}
+use mathlib.Core.Path.{_≡_}
+use Prim.Native.Nat.{ℕ, _+_, _*_, _≤_, _<_}
 use mathlib.Core.Bool.{Bool, _&&_, _||_}
 use mathlib.Core.List.{List}
 use lib.Dec.{eqb, ltb}
@@ -11,15 +12,20 @@ use Rattle.base.specs.Fill.{fill}
 use Rattle.plant.specs.declared.Plant.{Plant}
 use Rattle.choice.specs.Choice.{unset}
 
--- how many levels requirement d has, and the list of these
+-- How many levels requirement d has, and the list of these. Past the count it has 255, which every level passes, so that a row is tested to
+-- its end.
 abbrev pub levelsFrom : List ℕ → List ℕ → ℕ → ℕ
 levelsFrom sizes lattice d = getD sizes (getD lattice d 0) 0
 
 abbrev pub levelsByRequirement : List ℕ → List ℕ → ℕ → List ℕ
-levelsByRequirement sizes lattice requirements = fill (levelsFrom sizes lattice) (replicate 8 0) requirements
+levelsByRequirement sizes lattice requirements = fill (levelsFrom sizes lattice) (replicate 8 255) requirements
 
 abbrev pub most : Plant → List ℕ
 most p = levelsByRequirement (p .sizes) (p .lattice) (p .requirements)
+
+-- xs has 255 past the requirements
+abbrev pub Free : List ℕ → ℕ → Type 0
+Free xs requirements = (d : ℕ) → requirements ≤ d → d < 8 → getD xs d 0 ≡ 255
 
 -- level v is unset or one of n levels
 abbrev pub levelIn : ℕ → ℕ → Bool

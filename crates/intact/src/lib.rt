@@ -6,7 +6,7 @@ ghost use lib.ListN.{getD};
 ghost use Rattle.base.specs.Below.{allBelow};
 ghost use Rattle.plant.specs.Checks.{Fits, entryBelow};
 ghost use Rattle.rules.specs.Record.{intact};
-ghost use Rattle.intact.specs.Raw.{levelsFrom, levelsByRequirement, levelIn, rowIn, skidLevelsIn, taskIn, tankIn, chosenIn, runsIn, skidRunsIn, partsIn};
+ghost use Rattle.intact.specs.Raw.{levelsFrom, levelsByRequirement, Free, levelIn, rowIn, skidLevelsIn, taskIn, tankIn, chosenIn, runsIn, skidRunsIn, partsIn};
 use plant::Plant;
 use plant::refusal;
 use rules::Monitor;
@@ -17,7 +17,7 @@ fn wide(x: u8) -> usize
     x as usize
 }
 
-// How many levels each requirement has. A level is looked up in this, so that its lattice is found once and not for each skid and task.
+// How many levels a requirement has.
 fn levels_at<'a>(sizes: &'a [u8; 8], lattice: &'a [u8; 8], d: usize) -> u8
     requires { ⌜ (d < 8) × (getD (now lattice) d 0 < 8) ⌝ }
     ensures { λ r. ⌜ r ≡ levelsFrom (now (sizes .entry)) (now (lattice .entry)) d ⌝ }
@@ -26,6 +26,7 @@ fn levels_at<'a>(sizes: &'a [u8; 8], lattice: &'a [u8; 8], d: usize) -> u8
     sizes[l]
 }
 
+// How many levels each requirement has. A level is looked up in this, so that its lattice is found once and not for each skid and task.
 fn levels_by_requirement<'a>(
     sizes: &'a [u8; 8],
     lattice: &'a [u8; 8],
@@ -35,7 +36,7 @@ fn levels_by_requirement<'a>(
     requires { ⌜ allBelow (entryBelow (now lattice) 8) requirements ≡ true ⌝ }
     ensures { λ r. ⌜ r ≡ levelsByRequirement (now (sizes .entry)) (now (lattice .entry)) requirements ⌝ }
 {
-    let mut most = [0u8; 8];
+    let mut most = [255u8; 8];
     for d in 0..requirements {
         most[d] = levels_at(sizes, lattice, d);
     }
@@ -44,22 +45,25 @@ fn levels_by_requirement<'a>(
 
 // A stored level is unset, 255, or one of its lattice.
 fn level_ok(v: u8, n: u8) -> bool
-    ensures { λ r. ⌜ r ≡ levelIn v n ⌝ }
+    ensures { λ r. ⌜ (r ≡ levelIn v n) × (n ≡ 255 → r ≡ true) ⌝ }
 {
     v == 255 || v < n
 }
 
-// The levels of one skid and task stand in one row.
+// The levels of one skid and task stand in one row. It looks at all eight and never leaves early, so that the loop has a fixed length.
 fn row_ok<'a>(levels: &'a [u8; 1024], most: &'a [u8; 8], requirements: usize, row: usize) -> bool
-    requires { ⌜ (requirements ≤ 8) × (row < 128) ⌝ }
+    requires { ⌜ (requirements ≤ 8) × ((row < 128) × Free (now most) requirements) ⌝ }
     ensures { λ r. ⌜ r ≡ allBelow (rowIn (now (levels .entry)) (now (most .entry)) row) requirements ⌝ }
 {
-    for d in 0..requirements {
+    let mut ok = true;
+    let mut d: usize = 0;
+    while d < 8 {
         if !level_ok(levels[row * 8 + d], most[d]) {
-            return false;
+            ok = false;
         }
+        d += 1;
     }
-    true
+    ok
 }
 
 fn skid_levels_ok<'a>(
@@ -69,7 +73,7 @@ fn skid_levels_ok<'a>(
     tasks: usize,
     s: usize,
 ) -> bool
-    requires { ⌜ (requirements ≤ 8) × ((tasks ≤ 16) × (s < 8)) ⌝ }
+    requires { ⌜ (requirements ≤ 8) × ((tasks ≤ 16) × ((s < 8) × Free (now most) requirements)) ⌝ }
     ensures { λ r. ⌜ r ≡ skidLevelsIn (now (levels .entry)) (now (most .entry)) requirements tasks s ⌝ }
 {
     for t in 0..tasks {
@@ -87,7 +91,7 @@ fn levels_ok<'a>(
     tasks: usize,
     skids: usize,
 ) -> bool
-    requires { ⌜ (requirements ≤ 8) × ((tasks ≤ 16) × (skids ≤ 8)) ⌝ }
+    requires { ⌜ (requirements ≤ 8) × ((tasks ≤ 16) × ((skids ≤ 8) × Free (now most) requirements)) ⌝ }
     ensures { λ r. ⌜ r ≡ allBelow (skidLevelsIn (now (levels .entry)) (now (most .entry)) requirements tasks) skids ⌝ }
 {
     for s in 0..skids {

@@ -1,39 +1,20 @@
--- Sets that together have every level: what OR says of each bit, and a set one under a power of two. Assumes nothing.
+-- Sets that together have every level, and a set one under a power of two. Assumes nothing.
 use mathlib.Core.Path.{_≡_, refl, sym, ap, _∙_}
-use Prim.Native.Nat.{ℕ, zero, suc, _+_, _*_, _/_, _%_, _^_, _<_, max}
-use native.Mathlib.Nat.{mul-add-mod-self-right, mod-lt, pow-suc, zero-lt-suc}
+use Prim.Native.Nat.{ℕ, zero, suc, _+_, _^_, _<_}
+use native.Mathlib.Nat.{pow-suc}
 use native.Mathlib.Omega.{arith}
 use mathlib.Core.Bool.{true, _||_}
 use mathlib.Core.List.{List}
-use lib.Bits.{bitOr, or-shr, or-step}
+use lib.Bits.{bitOr}
 use lib.Dec.{eqb}
 use lib.ListN.{getD}
 use Rattle.base.specs.Below.{allBelow}
 use Rattle.base.specs.Bits.{bit}
 use Rattle.base.specs.Gather.{gather}
 use Rattle.base.proofs.Below.{all-at, all-yes}
+use Rattle.base.proofs.Bits.{or-bit}
 use Rattle.base.proofs.Gather.{gather-digit}
 use Rattle.lattice.specs.Sets.{underIn, Turned, comparable}
-
-or-digit : (u v : ℕ) → u < 2 → v < 2 → eqb (max u v % 2) 1 ≡ eqb u 1 || eqb v 1
-or-digit zero zero a b = refl
-or-digit zero (suc zero) a b = refl
-or-digit (suc zero) zero a b = refl
-or-digit (suc zero) (suc zero) a b = refl
-or-digit (suc (suc u)) zero a b = absurd (omega arith)
-or-digit (suc (suc u)) (suc v) a b = absurd (omega arith)
-or-digit zero (suc (suc v)) a b = absurd (omega arith)
-or-digit (suc zero) (suc (suc v)) a b = absurd (omega arith)
-
-or-low : (a b : ℕ) → eqb (bitOr a b % 2) 1 ≡ eqb (a % 2) 1 || eqb (b % 2) 1
-or-low a b =
-    ap (λ (m : ℕ). eqb (m % 2) 1) (or-step a b)
-    ∙ ap (λ (m : ℕ). eqb m 1) (mul-add-mod-self-right (bitOr (a / 2) (b / 2)) 2 (max (a % 2) (b % 2)))
-    ∙ or-digit (a % 2) (b % 2) (mod-lt a (zero-lt-suc 1)) (mod-lt b (zero-lt-suc 1))
-
--- bit i of x OR y
-or-bit : (x y i : ℕ) → bit (bitOr x y) i ≡ bit x i || bit y i
-or-bit x y i = ap (λ (m : ℕ). eqb (m % 2) 1) (or-shr x y i) ∙ or-low (x / 2 ^ i) (y / 2 ^ i)
 
 ones : (n : ℕ) → gather (λ i. 1) n + 1 ≡ 2 ^ n
 unfolding gather

@@ -1,6 +1,9 @@
 pub mod Laws
 pub mod Sets
+pub mod Rows
+pub mod Marked
 pub mod Compared
 pub mod Meets
+pub mod Gathered
 pub mod Tables
 pub mod Verdict

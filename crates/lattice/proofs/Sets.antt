@@ -1,42 +1,24 @@
 -- What whole sets say of single levels: two sets that share their bits, and the join of two levels as the level whose set is what theirs share.
 -- Assumes nothing.
-use mathlib.Core.Path.{_≡_, sym, ap, _∙_}
+use mathlib.Core.Path.{_≡_, refl, sym, subst, _∙_}
 use Prim.Native.Nat.{ℕ, _≤_, _<_}
 use native.Mathlib.Omega.{arith}
 use native.Mathlib.Decide.{decLt}
-use mathlib.Core.Bool.{Bool, true, false, cond, not, _&&_, _||_}
+use mathlib.Core.Bool.{true, false, not, _&&_, _||_}
 use mathlib.Core.List.{List}
 use lib.Bits.{bitAnd}
-use lib.Dec.{eqb, ltb}
+use lib.Dec.{eqb}
 use lib.ListN.{getD}
-use borrow.Author.Tests.{eqb-true, eqb-false, eq-eqb, not-true, lt-ltb, le-ltb}
-use Rattle.base.specs.Below.{allBelow, anyBelow, firstBelow, implies}
+use borrow.Author.Tests.{eqb-true, eqb-false, eq-eqb, ne-eqb, not-true}
+use Rattle.base.specs.Below.{allBelow, firstBelow, implies}
 use Rattle.base.specs.Bits.{bit}
-use Rattle.base.proofs.Logic.{split, true-false, same-test, and-true, and-both, implies-true, implies-intro, not-is-true, or-cases, or-left, or-right}
-use Rattle.base.proofs.Below.{all-at, all-yes, any-yes, any-no, first-is, first-none, lowest-unique, first-same}
-use Rattle.base.proofs.Shared.{Within, shared, shared-at, zero-bits}
+use Rattle.base.proofs.Logic.{split, true-false, same-test, and-true, and-both, implies-true, implies-intro, not-is-true, or-cases}
+use Rattle.base.proofs.Below.{all-at, all-yes, any-yes, first-is, first-same}
+use Rattle.base.proofs.Shared.{Within, shared, shared-at}
 use Rattle.lattice.specs.Order.{Order, Join}
 use Rattle.lattice.specs.Levels.{Layout, ordered, isJoin, joinOf}
-use Rattle.lattice.specs.Sets.{withSets, underIn, Sound, comparable, strictly, pairOrdered, rowOrdered, isSet}
+use Rattle.lattice.specs.Sets.{withSets, underIn, Sound, Narrow, comparable, strictly, passesOn, rowOrdered, isSet}
 use Rattle.lattice.proofs.Laws.{order-iff, join-says, join-holds, join-unique}
-
--- the first index below m that passes, where only those below n count
-first-within : (none : ℕ) (p : ℕ → Bool) (n m : ℕ) → n ≤ none → n ≤ m → cond (ltb (firstBelow none p m) n) (firstBelow none p m) none ≡ firstBelow none p n
-first-within none p n m a b = split (anyBelow p n)
-    (λ h.
-    let f = first-is none n p h in
-    let g = first-is none m p (any-yes m p (firstBelow none p n) (omega (arith, f .below)) (f .passes)) in
-    let e : firstBelow none p n ≡ firstBelow none p m =
-    lowest-unique m p (firstBelow none p n) (firstBelow none p m) (record { below = omega (arith, f .below); passes = f .passes; first = f .first }) g in
-    rw (← e, lt-ltb (firstBelow none p n) n (f .below)))
-    (λ h.
-    let past : n ≤ firstBelow none p m = split (anyBelow p m)
-    (λ q. elim (decLt (firstBelow none p m) n) [
-      | yes l ↦ absurd (true-false (sym (first-is none m p q .passes) ∙ any-no n p h (firstBelow none p m) l))
-      | no l ↦ omega arith
-    ])
-    (λ q. rw (first-none none m p q) a) in
-    rw (le-ltb (firstBelow none p m) n past, first-none none n p h))
 
 module _ (n : ℕ) (s : List ℕ) where
   abbrev set : ℕ → ℕ
@@ -46,56 +28,60 @@ module _ (n : ℕ) (s : List ℕ) where
   within : Layout (withSets n s) → (i : ℕ) → i < n → Within n (set i)
   within y i l j h = y .bits-from-n i j (omega (arith, y .at-most-16)) h
 
-  pair-other : (i j : ℕ) → pairOrdered s i j ≡ true → eqb i j ≡ false → underIn s i j ≡ true → (not (underIn s j i) ≡ true) × (eqb (bitAnd (set i) (set j)) (set j) ≡ true)
-  pair-other i j e z u =
-      and-true (not (underIn s j i)) (eqb (bitAnd (set i) (set j)) (set j))
-      (or-cases (eqb i j) (strictly s i j) (implies-true (underIn s i j) (eqb i j || strictly s i j) e u) z)
+  -- a level in a set is below n
+  used : Layout (withSets n s) → (i j : ℕ) → i < 16 → underIn s i j ≡ true → j < n
+  used y i j p u = elim (decLt j n) [
+    | yes l ↦ l
+    | no l ↦ absurd (true-false (sym u ∙ y .bits-from-n i j p (omega arith)))
+  ]
 
-  pairs-order : ((i : ℕ) → i < n → underIn s i i ≡ true) → ((i : ℕ) → i < n → (j : ℕ) → j < n → pairOrdered s i j ≡ true) → Order n (underIn s)
-  pairs-order own h = record {
-    reflexive = own;
+  pub narrow : Layout (withSets n s) → Narrow s
+  narrow y j k p h = y .bits-from-n j k p (omega (arith, y .at-most-16))
+
+  strictly-both : (i j : ℕ) → underIn s i j ≡ true → (i ≡ j → ⊥) → strictly s i j ≡ true
+  strictly-both i j u d = and-both _ _ u (not-is-true (eqb i j) (ne-eqb i j d))
+
+  strictly-says : (i j : ℕ) → strictly s i j ≡ true → (underIn s i j ≡ true) × (i ≡ j → ⊥)
+  strictly-says i j e =
+      let b = and-true (underIn s i j) (not (eqb i j)) e in
+      (b .0, eqb-false i j (not-true (eqb i j) (b .1)))
+
+  -- a row that passes, at one level strictly above and one above that
+  row-step : (i j k : ℕ) → rowOrdered s i ≡ true → j < 16 → k < 16 → strictly s i j ≡ true → underIn s j k ≡ true → strictly s i k ≡ true
+  row-step i j k e q r u v =
+      let on = all-at 16 (passesOn s i) (and-true (underIn s i i) (allBelow (passesOn s i) 16) e .1) j q in
+      let each = implies-true (strictly s i j) (allBelow (λ k. implies (underIn s j k) (strictly s i k)) 16) on u in
+      implies-true (underIn s j k) (strictly s i k) (all-at 16 (λ k. implies (underIn s j k) (strictly s i k)) each k r) v
+
+  rows-order : n ≤ 16 → ((i : ℕ) → i < n → rowOrdered s i ≡ true) → Order n (underIn s)
+  rows-order b h = record {
+    reflexive = λ i p. and-true (underIn s i i) (allBelow (passesOn s i) 16) (h i p) .0;
     antisymmetric = λ i j p q u v. split (eqb i j)
         (λ z. eqb-true i j z)
-        (λ z. absurd (true-false (sym v ∙ not-true (underIn s j i) (pair-other i j (h i p j q) z u .0))));
+        (λ z. absurd (strictly-says i i (row-step i j i (h i p) (omega arith) (omega arith) (strictly-both i j u (eqb-false i j z)) v) .1 refl));
     transitive = λ i j k p q r u v. split (eqb i j)
         (λ z. rw (eqb-true i j z) v)
-        (λ z.
-        let lies : set j ≡ bitAnd (set i) (set j) = sym (eqb-true _ _ (pair-other i j (h i p j q) z u .1)) in
-        and-true (underIn s i k) (underIn s j k) (sym (shared-at (set j) (set i) (set j) lies k) ∙ v) .0);
+        (λ z. strictly-says i k (row-step i j k (h i p) (omega arith) (omega arith) (strictly-both i j u (eqb-false i j z)) v) .0);
   }
 
-  module _ (y : Layout (withSets n s)) (o : Order n (underIn s)) (i : ℕ) (p : i < n) (j : ℕ) (q : j < n) where
-    order-strictly : eqb i j ≡ false → underIn s i j ≡ true → strictly s i j ≡ true
-    order-strictly z u = and-both _ _
-        (not-is-true (underIn s j i) (split (underIn s j i) (λ v. absurd (eqb-false i j z (o .antisymmetric i j p q u v))) (λ v. v)))
-        (eq-eqb _ _ (sym (shared n (set j) (set i) (set j) (within y j q) (within y i p) (within y j q)
-        (λ k r. same-test (underIn s j k) (underIn s i k && underIn s j k) (λ v. and-both _ _ (o .transitive i j k p q r u v) v) (λ w. and-true (underIn s i k) (underIn s j k) w .1)))))
-
-    order-pair : pairOrdered s i j ≡ true
-    order-pair = implies-intro (underIn s i j) (eqb i j || strictly s i j)
-        (λ u. split (eqb i j) (λ z. or-left (eqb i j) (strictly s i j) z) (λ z. or-right (eqb i j) (strictly s i j) (order-strictly z u)))
-
-  -- a level that is not used is in no set
-  unused-pair : Layout (withSets n s) → (i j : ℕ) → i < n → n ≤ j → pairOrdered s i j ≡ true
-  unused-pair y i j p h = rw (within y i p j h)
+  order-step : Layout (withSets n s) → Order n (underIn s) → (i j k : ℕ) → i < n → j < 16 → strictly s i j ≡ true → underIn s j k ≡ true → strictly s i k ≡ true
+  order-step y o i j k p q e v =
+      let d = strictly-says i j e in
+      let m : j < n = used y i j (omega (arith, y .at-most-16)) (d .0) in
+      let r : k < n = used y j k q v in
+      strictly-both i k (o .transitive i j k p m r (d .0) v)
+      (λ z. d .1 (o .antisymmetric i j p m (d .0) (subst (λ (x : ℕ). underIn s j x ≡ true) (sym z) v)))
 
   order-row : Layout (withSets n s) → Order n (underIn s) → (i : ℕ) → i < n → rowOrdered s i ≡ true
-  order-row y o i p = and-both _ _
-      (all-yes 16 (pairOrdered s i) (λ j l. elim (decLt j n) [
-        | yes q ↦ order-pair y o i p j q
-        | no q ↦ unused-pair y i j p (omega arith)
-      ]))
-      (o .reflexive i p)
+  order-row y o i p = and-both _ _ (o .reflexive i p)
+      (all-yes 16 (passesOn s i) (λ j q. implies-intro (strictly s i j) _
+      (λ e. all-yes 16 (λ k. implies (underIn s j k) (strictly s i k)) (λ k r. implies-intro (underIn s j k) (strictly s i k) (order-step y o i j k p q e)))))
 
-  row-says : allBelow (rowOrdered s) n ≡ true → (i : ℕ) → i < n → (allBelow (pairOrdered s i) 16 ≡ true) × (underIn s i i ≡ true)
-  row-says e i p = and-true (allBelow (pairOrdered s i) 16) (underIn s i i) (all-at n (rowOrdered s) e i p)
-
-  -- 8 by whole sets: each row passes where the levels are in order, and only there.
-  pub pairs-ordered : Layout (withSets n s) → allBelow (rowOrdered s) n ≡ ordered n (underIn s)
-  pairs-ordered y = same-test _ _
-      (λ e. order-iff n (underIn s) .1 (pairs-order (λ i p. row-says e i p .1)
-      (λ i p j q. all-at 16 (pairOrdered s i) (row-says e i p .0) j (omega (arith, y .at-most-16)))))
-      (λ e. let o = order-iff n (underIn s) .0 e in all-yes n (rowOrdered s) (order-row y o))
+  -- 8 by rows: each row passes where the levels are in order, and only there.
+  pub rows-ordered : Layout (withSets n s) → allBelow (rowOrdered s) n ≡ ordered n (underIn s)
+  rows-ordered y = same-test _ _
+      (λ e. order-iff n (underIn s) .1 (rows-order (y .at-most-16) (all-at n (rowOrdered s) e)))
+      (λ e. all-yes n (rowOrdered s) (order-row y (order-iff n (underIn s) .0 e)))
 
   module _ (w : Sound n s) (i j : ℕ) (p : i < n) (q : j < n) where
     -- The law of joins: level k is the join of i and j where its set is what theirs share, and only there.
@@ -112,12 +98,9 @@ module _ (n : ℕ) (s : List ℕ) where
         (λ h. and-both _ _ (w .order .transitive i k v p r l (t .above-left) h) (w .order .transitive j k v q r l (t .above-right) h))
         (λ h. let g = and-true (underIn s i v) (underIn s j v) h in t .least v l (g .0) (g .1)))))
 
-    pub join-found : cond (ltb (firstBelow 255 (isSet s (bitAnd (set i) (set j))) 16) n) (firstBelow 255 (isSet s (bitAnd (set i) (set j))) 16) 255 ≡ joinOf n (underIn s) i j
+    pub join-found : firstBelow 255 (isSet s (bitAnd (set i) (set j))) n ≡ joinOf n (underIn s) i j
     unfolding joinOf
-    join-found =
-        let b : n ≤ 16 = w .clean .at-most-16 in
-        first-within 255 (isSet s (bitAnd (set i) (set j))) n 16 (omega arith) b
-        ∙ first-same 255 n (isSet s (bitAnd (set i) (set j))) (isJoin n (underIn s) i j) join-set
+    join-found = first-same 255 n (isSet s (bitAnd (set i) (set j))) (isJoin n (underIn s) i j) join-set
 
     -- a level that is a join of i and j is the one that the table has
     join-is : (u : ℕ) → Join n (underIn s) i j u → u ≡ joinOf n (underIn s) i j
@@ -127,7 +110,7 @@ module _ (n : ℕ) (s : List ℕ) where
         join-unique n (underIn s) (w .order) i j u _ t (join-says n (underIn s) i j _ (f .below) (f .passes))
 
     -- the join of two levels of which one is under the other is the upper one
-    pub join-right : underIn s i j ≡ true → j ≡ joinOf n (underIn s) i j
+    join-right : underIn s i j ≡ true → j ≡ joinOf n (underIn s) i j
     join-right u = join-is j (record { is-level = q; above-left = u; above-right = w .order .reflexive j q; least = λ v l a b. b })
 
     pub join-left : underIn s j i ≡ true → i ≡ joinOf n (underIn s) i j

@@ -1,12 +1,13 @@
 -- What the code looks at in place of single bits: the sets of a lattice, each as one number.
 use mathlib.Core.Path.{_≡_}
-use Prim.Native.Nat.{ℕ, _/_, _%_, _^_, _<_}
-use mathlib.Core.Bool.{Bool, not, _&&_, _||_}
+use Prim.Native.Nat.{ℕ, zero, suc, _+_, _*_, _/_, _%_, _^_, _<_, _≤_}
+use mathlib.Core.Bool.{Bool, false, cond, not, _&&_, _||_}
 use mathlib.Core.List.{List}
 use lib.Dec.{eqb}
-use lib.Bits.{bitAnd}
+use lib.Bits.{bitAnd, bitOr, bitXor}
 use lib.ListN.{getD, replicate}
 use Rattle.base.specs.Below.{allBelow, implies}
+use Rattle.base.specs.Bits.{bit}
 use Rattle.base.specs.Fill.{fill}
 use Rattle.base.specs.Gather.{gather}
 use Rattle.lattice.specs.declared.Lattice.{Lattice}
@@ -34,17 +35,30 @@ Turned n s t = (i j : ℕ) → i < n → j < n → underIn t i j ≡ underIn s j
 abbrev pub comparable : List ℕ → ℕ → ℕ → Bool
 comparable s i j = underIn s i j || underIn s j i
 
--- Level i is under another level j: then j is not under i, and the set of j lies in that of i.
+-- level i is under another level j
 abbrev pub strictly : List ℕ → ℕ → ℕ → Bool
-strictly s i j = not (underIn s j i) && eqb (bitAnd (getD s i 0) (getD s j 0)) (getD s j 0)
+strictly s i j = underIn s i j && not (eqb i j)
 
--- levels i and j are in order
-abbrev pub pairOrdered : List ℕ → ℕ → ℕ → Bool
-pairOrdered s i j = implies (underIn s i j) (eqb i j || strictly s i j)
+-- what lies above j lies strictly above i, if j does
+abbrev pub passesOn : List ℕ → ℕ → ℕ → Bool
+passesOn s i j = implies (strictly s i j) (allBelow (λ k. implies (underIn s j k) (strictly s i k)) 16)
 
--- Level i is in order with each level, and under itself.
+-- Level i is in order: it is under itself, and strictly under all that lies above a level that it is strictly under.
 abbrev pub rowOrdered : List ℕ → ℕ → Bool
-rowOrdered s i = allBelow (pairOrdered s i) 16 && underIn s i i
+rowOrdered s i = underIn s i i && allBelow (passesOn s i) 16
+
+-- no set has a level from 16 on
+abbrev pub Narrow : List ℕ → Type 0
+Narrow s = (j k : ℕ) → j < 16 → 16 ≤ k → underIn s j k ≡ false
+
+-- set i without level i
+abbrev pub others : List ℕ → ℕ → ℕ
+others s i = bitXor (getD s i 0) (2 ^ i)
+
+-- what lies above the levels of x that are below m: their sets together
+unfoldable pub above : List ℕ → ℕ → ℕ → ℕ
+above s x zero = 0
+above s x (suc m) = cond (bit x m) (bitOr (above s x m) (getD s m 0)) (above s x m)
 
 -- set k is x
 abbrev pub isSet : List ℕ → ℕ → ℕ → Bool
@@ -59,3 +73,17 @@ turnedSet s j = gather (turnedBit s j) 16
 
 abbrev pub turnedSets : List ℕ → List ℕ
 turnedSets s = fill (turnedSet s) (replicate 16 0) 16
+
+-- level i, whose set is x, added to the sets t of the levels of x
+abbrev pub addedAt : List ℕ → ℕ → ℕ → ℕ → ℕ
+addedAt t x i j = getD t j 0 + x / 2 ^ j % 2 * 2 ^ i
+
+abbrev pub added : List ℕ → ℕ → ℕ → List ℕ
+added t x i = fill (addedAt t x i) t 16
+
+-- Level k put in a row of joins at each level whose set shares with x what set k has.
+abbrev pub markedAt : List ℕ → ℕ → ℕ → List ℕ → ℕ → ℕ
+markedAt s x k row j = cond (isSet s (bitAnd x (getD s j 0)) k) k (getD row j 0)
+
+abbrev pub marked : List ℕ → ℕ → ℕ → List ℕ → List ℕ
+marked s x k row = fill (markedAt s x k row) row 16

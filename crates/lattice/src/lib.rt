@@ -1,11 +1,14 @@
 // Lattices of levels: the test that a lattice record is a lattice, by its table of joins and its table of meets.
 ghost use mathlib.Core.Path.{_≡_};
-ghost use mathlib.Core.Bool.{true};
-ghost use Prim.Native.Nat.{_<_, _≤_};
-ghost use Rattle.base.specs.Below.{allBelow, firstBelow};
+ghost use mathlib.Core.Bool.{true, cond};
+ghost use lib.Bits.{bitOr};
+ghost use lib.Dec.{eqb};
+ghost use lib.ListN.{getD};
+ghost use Prim.Native.Nat.{ℕ, _^_, _<_, _≤_};
+ghost use Rattle.base.specs.Below.{allBelow};
 ghost use Rattle.base.specs.Bits.{bit};
 ghost use Rattle.lattice.specs.Levels.{Layout, setClear, layout, ordered, joinOf, complete, refusal};
-ghost use Rattle.lattice.specs.Sets.{withSets, underIn, Sound, Turned, comparable, pairOrdered, rowOrdered, isSet, turnedSet, turnedSets};
+ghost use Rattle.lattice.specs.Sets.{withSets, underIn, Sound, Turned, Narrow, comparable, rowOrdered, above, added, marked, turnedSets};
 ghost use Rattle.lattice.specs.Table.{joinRow, joinTable, rowFull, tableFull};
 
 // A lattice record: n levels, and bit j of sets[i] where level i is at or under level j.
@@ -71,39 +74,40 @@ fn has(x: u16, i: usize) -> bool
     (x >> i) % 2 == 1
 }
 
-// Levels i and j are in order. What lies above j is compared as a whole set, and not level by level.
-fn pair_ordered(s: &[u16; 16], i: usize, j: usize) -> bool
-    requires { ⌜ (i < 16) × (j < 16) ⌝ }
-    ensures { λ r. ⌜ r ≡ pairOrdered (now (s .entry)) i j ⌝ }
+// The set x joined to y, where level j is in the set `these`.
+fn with_set(y: u16, these: u16, j: usize, x: u16) -> u16
+    requires { ⌜ j < 16 ⌝ }
+    ensures { λ r. ⌜ r ≡ cond (bit these j) (bitOr y x) y ⌝ }
 {
-    let a = s[i];
-    let b = s[j];
-    if !has(a, j) {
-        return true;
-    }
-    if i == j {
-        return true;
-    }
-    if has(b, i) {
-        return false;
-    }
-    a & b == b
+    if has(these, j) { y | x } else { y }
 }
 
-// It looks at all 16 levels and never leaves early, so that the loop has a fixed length; a level that is not used is in no set.
-fn row_ordered(s: &[u16; 16], i: usize) -> bool
-    requires { ⌜ i < 16 ⌝ }
-    ensures { λ r. ⌜ r ≡ rowOrdered (now (s .entry)) i ⌝ }
+// What lies above the levels of a set. It looks at all 16 levels and never leaves early, so that the loop has a fixed length; a level that is
+// not used is in no set.
+fn above_all(s: &[u16; 16], these: u16) -> u16
+    ensures { λ r. ⌜ r ≡ above (now (s .entry)) these 16 ⌝ }
 {
-    let mut ordered = true;
+    let mut all: u16 = 0;
     let mut j: usize = 0;
     while j < 16 {
-        if !pair_ordered(s, i, j) {
-            ordered = false;
-        }
+        all = with_set(all, these, j, s[j]);
         j += 1;
     }
-    ordered && has(s[i], i)
+    all
+}
+
+// What lies above the levels strictly above i lies strictly above i: whole sets are compared, and not level by level.
+fn row_ordered(s: &[u16; 16], i: usize) -> bool
+    requires { ⌜ (i < 16) × Narrow (now s) ⌝ }
+    ensures { λ r. ⌜ r ≡ rowOrdered (now (s .entry)) i ⌝ }
+{
+    let x = s[i];
+    if !has(x, i) {
+        return false;
+    }
+    let strictly = x ^ (1u16 << i);
+    let further = above_all(s, strictly);
+    further & strictly == further
 }
 
 // 8: the levels are in order.
@@ -121,18 +125,16 @@ fn in_order(s: &[u16; 16], n: usize) -> bool
     true
 }
 
-// Bit j of each set, gathered: the levels at or under level j.
-fn turned_set(s: &[u16; 16], j: usize) -> u16
-    requires { ⌜ j < 16 ⌝ }
-    ensures { λ r. ⌜ r ≡ turnedSet (now (s .entry)) j ⌝ }
+// Level i, whose set is x, goes into the turned sets of the levels of x.
+fn add_level(t: &mut [u16; 16], x: u16, i: usize)
+    requires { ⌜ (i < 16) × ((j : ℕ) → j < 16 → getD (now t) j 0 < 2 ^ i) ⌝ }
+    ensures { λ r. ⌜ now (t .exit) ≡ added (now (t .entry)) x i ⌝ }
 {
-    let mut x: u16 = 0;
-    let mut i: usize = 0;
-    while i < 16 {
-        x = x + (((s[i] >> j) % 2) << i);
-        i += 1;
+    let mut j: usize = 0;
+    while j < 16 {
+        t[j] = t[j] + (((x >> j) % 2) << i);
+        j += 1;
     }
-    x
 }
 
 // The sets of the turned order, in which a join is a meet of the given one.
@@ -140,44 +142,12 @@ fn turned(s: &[u16; 16]) -> [u16; 16]
     ensures { λ r. ⌜ r ≡ turnedSets (now (s .entry)) ⌝ }
 {
     let mut t = [0u16; 16];
-    let mut j: usize = 0;
-    while j < 16 {
-        t[j] = turned_set(s, j);
-        j += 1;
+    let mut i: usize = 0;
+    while i < 16 {
+        add_level(&mut t, s[i], i);
+        i += 1;
     }
     t
-}
-
-// The first level whose set is x, or 255. It goes over all 16 sets, whatever their number, so that the search has no count to keep.
-fn level_of(s: &[u16; 16], x: u16) -> usize
-    ensures { λ r. ⌜ r ≡ firstBelow 255 (isSet (now (s .entry)) x) 16 ⌝ }
-{
-    let mut k: usize = 0;
-    while k < 16 {
-        if s[k] == x {
-            return k;
-        }
-        k += 1;
-    }
-    255
-}
-
-// The join of i and j: the upper of the two where one is under the other, so that most pairs want no search; else the level whose set is
-// what their sets share. A set that is not used is no level's.
-fn join(s: &[u16; 16], n: usize, i: usize, j: usize) -> u8
-    requires { ⌜ Sound n (now s) × ((i < n) × (j < n)) ⌝ }
-    ensures { λ r. ⌜ r ≡ joinOf n (underIn (now (s .entry))) i j ⌝ }
-{
-    let x = s[i];
-    let y = s[j];
-    if has(x, j) {
-        return j as u8;
-    }
-    if has(y, i) {
-        return i as u8;
-    }
-    let k = level_of(s, x & y);
-    if k < n { k as u8 } else { 255 }
 }
 
 // Each of n levels is in the set x.
@@ -214,17 +184,43 @@ fn upper_row(s: &[u16; 16], n: usize, i: usize) -> [u8; 16]
     row
 }
 
+// Level k where its set is what two levels share, and else what was found before.
+fn level_or(shared: u16, own: u16, k: u8, before: u8) -> u8
+    ensures { λ r. ⌜ r ≡ cond (eqb own shared) k before ⌝ }
+{
+    if own == shared { k } else { before }
+}
+
+// Level k is the join of the level whose set is x and of each level whose set shares with x what set k has.
+fn mark(row: &mut [u8; 16], s: &[u16; 16], x: u16, k: usize)
+    requires { ⌜ k < 16 ⌝ }
+    ensures { λ r. ⌜ now (row .exit) ≡ marked (now (s .entry)) x k (now (row .entry)) ⌝ }
+{
+    let own = s[k];
+    let number = k as u8;
+    let mut j: usize = 0;
+    while j < 16 {
+        row[j] = level_or(x & s[j], own, number, row[j]);
+        j += 1;
+    }
+}
+
+// A level that is a join with level i is above it, so the others are passed over. Entries from n on stay 255: a set that is not used shares
+// nothing.
 fn searched_row(s: &[u16; 16], n: usize, i: usize) -> [u8; 16]
     requires { ⌜ Sound n (now s) × (i < n) ⌝ }
     ensures { λ r. ⌜ r ≡ joinRow n (underIn (now (s .entry))) i ⌝ }
 {
-    let mut row = [255u8; 16];
-    let mut j: usize = 0;
-    while j < n {
-        row[j] = join(s, n, i, j);
-        j += 1;
+    let x = s[i];
+    let mut found = [255u8; 16];
+    let mut k: usize = 0;
+    while k < n {
+        if has(x, k) {
+            mark(&mut found, s, x, k);
+        }
+        k += 1;
     }
-    row
+    found
 }
 
 // Where each level is under level i or above it, which the sets of both orders show at once, the row wants no search.

@@ -15,7 +15,10 @@ Inv-loop levels most requirements tasks skids s₀ s = (s ≤ skids) × (allBelo
 abbrev μ-loop : tie.MeasureT-loop
 μ-loop levels most requirements tasks skids s₀ s = skids - s
 
+skid-asked : tie.Need-skid-levels-ok-requires Inv-loop μ-loop
+skid-asked c κs = (search needs, (search needs, (search needs, c .before .before .pre .1 .1 .1)))
+
 pub levels-ok-spec : {M : Type 1} → statement M
 levels-ok-spec =
     tie.close
-    (tie.spec Inv-loop μ-loop (λ c. search (needs, scan)) (λ c κs. search (needs, scan)) (λ c. search (needs, scan)) (λ c. search (needs, scan)) (λ c. search (needs, scan)) (λ c. search (needs, scan)) (λ c. search (needs, scan)))
+    (tie.spec Inv-loop μ-loop (λ c. search (needs, scan)) skid-asked (λ c. search (needs, scan)) (λ c. search (needs, scan)) (λ c. search (needs, scan)) (λ c. search (needs, scan)) (λ c. search (needs, scan)))

@@ -1,8 +1,19 @@
 -- `intact::parts_ok` meets its contract: the levels, then what runs. Assumes nothing.
+use Prim.Native.Nat.{ℕ}
+use mathlib.Core.List.{List}
+use mathlib.Core.Path.{sym, subst}
 use Rattle.base.proofs.Both.{calls}
 use borrow.Author.Needs.{needs}
+use Rattle.intact.specs.Raw.{Free}
+use Rattle.intact.proofs.Views.{most-free}
 use Rattle.intact.proofs.parts_ok.Statement.{statement}
 use Rattle.intact.proofs.parts_ok.Tie as tie
+
+levels-asked : tie.Need-levels-ok-requires
+levels-asked c κs =
+    let e = c .before .levels-by-requirement .ensures in
+    let p = c .before .before .before .before .before .args .t1 in
+    (search needs, (search needs, (search needs, subst (λ (xs : List ℕ). Free xs (p .requirements)) (sym e) (most-free (p .sizes) (p .lattice) (p .requirements)))))
 
 returns : tie.Need-returns
 returns c = rw (← c .before .before .before .before .levels-by-requirement .ensures) (search calls)
@@ -13,4 +24,4 @@ returns-2 c = rw (← c .before .before .before .levels-by-requirement .ensures)
 pub parts-ok-spec : {M : Type 1} → statement M
 parts-ok-spec =
     tie.close
-    (tie.spec (λ c. search needs) (λ c. search needs) (λ c. search needs) (λ c κs. search needs) (λ c κs. search needs) (λ c κs. search needs) returns returns-2)
+    (tie.spec (λ c. search needs) (λ c. search needs) (λ c. search needs) (λ c κs. search needs) levels-asked (λ c κs. search needs) returns returns-2)

@@ -1,61 +1,44 @@
--- `lattice::row_ordered` meets its contract: what it noted is whether the levels passed are in order with level i. Assumes nothing.
-use Prim.Native.Nat.{ℕ, _+_, _≤_, _-_}
-use mathlib.Core.Path.{_≡_, sym, ap, _∙_}
-use mathlib.Core.Logic.{⊎-elim}
-use mathlib.Core.Bool.{Bool, false, not}
-use native.Mathlib.Nat.{le-antisymm}
-use native.Mathlib.Numerals.{add-one}
+-- `lattice::row_ordered` meets its contract: a level that is not under itself is refused, and else whole sets are compared. Assumes nothing.
+use Prim.Native.Nat.{ℕ, _*_, _%_, _^_, _<_}
+use mathlib.Core.Path.{_≡_, _∙_}
+use mathlib.Core.List.{List}
+use native.Mathlib.Nat.{one-mul}
 use native.Mathlib.Omega.{arith}
+use lib.Bits.{bitAnd, bitXor}
+use lib.Dec.{eqb}
+use lib.ListN.{getD}
+use lib.Pow.{shl-exact}
 use borrow.Author.Needs.{needs}
-use borrow.Author.Tests.{not-false}
-use Rattle.base.specs.Below.{allBelow}
-use Rattle.base.proofs.Both.{both-on, both-off}
-use Rattle.base.proofs.Logic.{split}
-use Rattle.base.proofs.Scan.{all-none, all-off}
-use Rattle.lattice.specs.Sets.{pairOrdered}
+use Rattle.base.proofs.Both.{guard-off, guard-on, held}
+use Rattle.lattice.specs.Sets.{others, above}
+use Rattle.lattice.proofs.Rows.{row-test}
 use Rattle.lattice.proofs.row_ordered.Statement.{statement}
 use Rattle.lattice.proofs.row_ordered.Tie as tie
 
--- a level that passes changes nothing
-keeps : (p : ℕ → Bool) (i : ℕ) {r : Bool} → not r ≡ false → r ≡ p i → allBelow p i ≡ allBelow p (i + 1)
-unfolding allBelow
-keeps p i n e = rw (add-one, sym e ∙ not-false _ n) (split (allBelow p i) (λ h. rw h) (λ h. rw h))
+-- level i alone, as the code makes it
+alone : (i : ℕ) → i < 16 → 1 * 2 ^ i % 65536 ≡ 2 ^ i
+alone i l = shl-exact 1 i 16 (let b : 1 < 2 ^ 1 = omega arith in b) (omega arith) ∙ one-mul (2 ^ i)
 
-abbrev Inv-loop : tie.InvT-loop
-Inv-loop s i ordered₀ j₀ ordered j = (j ≤ 16) × (ordered ≡ allBelow (pairOrdered s i) j)
+-- the code's test of what it found to lie further above
+tested : (s : List ℕ) (i : ℕ) → i < 16 → {further : ℕ} → further ≡ above s (bitXor (getD s i 0) (1 * 2 ^ i % 65536)) 16
+    → eqb (bitAnd further (bitXor (getD s i 0) (1 * 2 ^ i % 65536))) further ≡ eqb (bitAnd (above s (others s i) 16) (others s i)) (above s (others s i) 16)
+tested s i l e = rw (e, alone i l)
 
-abbrev μ-loop : tie.MeasureT-loop
-μ-loop s i ordered₀ j₀ ordered j = 16 - j
+not-itself : tie.Need-returns
+not-itself c = guard-off _ _ (c .before .has .ensures) (c .if1 .taken)
 
-loop-again : tie.Need-loop-again Inv-loop μ-loop
-loop-again c =
-    let o = c .before in
-    let l = o .before .before in
-    let p = pairOrdered (l .before .args .s .now) (l .before .args .i) in (
-      search needs,
-      ⊎-elim
-          (λ w. w .1 ∙ all-off p _ _ (omega arith) (w .0 .taken) (o .pair-ordered .ensures))
-          (λ w. w .1 ∙ l .loop .inv .1 ∙ keeps p _ (w .0 .left) (o .pair-ordered .ensures))
-          (c .if1 .came),
-    )
-
--- what the loop noted is of all levels
-noted : {r : Bool} (p : ℕ → Bool) (j : ℕ) → j ≤ 16 → 16 ≤ j → r ≡ allBelow p j → r ≡ allBelow p 16
-noted p j a b e = e ∙ ap (allBelow p) (le-antisymm a b)
-
-returns : tie.Need-returns Inv-loop μ-loop
-returns c =
-    let l = c .before .before .before .before in
-    both-on _ _ (noted _ _ (search needs) (search needs) (l .loop .inv .1)) (c .before .before .if2 .taken) (c .has .ensures)
-
-returns-2 : tie.Need-returns-2 Inv-loop μ-loop
-returns-2 c =
-    let l = c .before .before in
-    both-off _ _ (noted _ _ (search needs) (search needs) (l .loop .inv .1)) (c .if2 .left)
+passes-on : tie.Need-returns-2
+passes-on c =
+    let o = c .before .before .before .before in
+    let g = c .before .before in
+    let own = held _ (g .has .ensures) (c .before .if1 .left) in
+    guard-on _ _ (g .has .ensures) (c .before .if1 .left)
+    (tested (o .args .s .now) (o .args .i) (o .pre .0) (c .above-all .ensures)
+    ∙ row-test (o .args .s .now) (o .args .i) own (o .pre .1) (o .pre .0))
 
 pub row-ordered-spec : {M : Type 1} → statement M
 row-ordered-spec =
     tie.close
-    (tie.spec Inv-loop μ-loop
-    (λ c. (search needs, sym (all-none _))) (λ c κs. search needs) (λ c. search needs) (λ c. search needs) loop-again
-    (λ c. search needs) (λ c. search needs) (λ c κs. search needs) returns returns-2)
+    (tie.spec
+    (λ c. search needs) (λ c. search needs) (λ c κs. search needs) not-itself (λ c. search needs) (λ c. search needs)
+    (λ c κs. search needs) passes-on)
