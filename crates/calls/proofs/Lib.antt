@@ -1,6 +1,7 @@
 pub mod Rows
 pub mod Known
 pub mod Made
+pub mod Groups
 pub mod Early
 pub mod Ready
 pub mod Meet

@@ -3,20 +3,19 @@ use mathlib.Core.Path.{_≡_, refl, sym, ap, ap₂, _∙_}
 use Prim.Native.Nat.{ℕ, _+_, _*_, _≤_, _<_}
 use native.Mathlib.Omega.{arith}
 use mathlib.Core.Bool.{Bool, true, false, cond, not, _&&_, _||_}
-use mathlib.Core.List.{List, [], _∷_}
+use mathlib.Core.List.{List}
 use lib.Dec.{eqb, ltb, leb}
 use lib.ListN.{getD, replicate, length-replicate, getD-replicate}
 use lib.ListN as ListN
 use borrow.Author.Tests.{leb-false, leb-true, ltb-true, ltb-false, lt-ltb, le-ltb, eqb-true, eq-eqb, ne-eqb, not-false}
 use Rattle.base.specs.Below.{allBelow, anyBelow}
 use Rattle.base.specs.Bits.{bit}
-use Rattle.base.specs.Chain.{_gives_, first}
 use Rattle.base.specs.Fill.{fill}
 use Rattle.base.proofs.Logic.{split}
 use Rattle.base.proofs.Below.{any-same}
 use Rattle.base.proofs.Filled.{fill-at, fill-past}
 use Rattle.plant.specs.declared.Plant.{Plant}
-use Rattle.plant.specs.Plant.{mayRun, requirementOf, rightsOf, needs, groupOf, latticeOf}
+use Rattle.plant.specs.Plant.{requirementOf, rightsOf, needs, groupOf, latticeOf}
 use Rattle.plant.specs.Valid.{Valid}
 use Rattle.choice.specs.Choice.{unset, served, choice}
 use Rattle.choice.specs.Search.{choiceIn}
@@ -25,7 +24,7 @@ use Rattle.choice.proofs.Search.{search-choice}
 use Rattle.rules.specs.declared.Monitor.{Monitor}
 use Rattle.rules.specs.Rules.{Call, set, start, stop, gate, View, blankAt, blank, lacking, holds, conditions, refusal, granted, answer, pickFor}
 use Rattle.rules.specs.Record.{viewOf, levelAt, chosenAt, hasLevel, hasChosen, fillFrom, changed, stepped, intact}
-use Rattle.calls.specs.Work.{setNumber, setLevels, heldIn, gateAnswer, blankIn, pickIn, rowIn, lackingIn, startEarly, startRow, startNumber, getRow, stopNumber, stopRunning, stopChosen}
+use Rattle.calls.specs.Work.{setNumber, setLevels, heldIn, gateAnswer, blankIn, pickIn, rowIn, lackingIn, startRow, startNumber, getRow, stopNumber, stopRunning, stopChosen}
 use Rattle.rules.proofs.Accepted.{start-ok}
 use Rattle.calls.proofs.Rows.{row-same}
 use Rattle.calls.proofs.Ready.{plant-valid}
@@ -133,26 +132,17 @@ module _ (m : Monitor) (i : intact (m .plant) m ≡ true) where
     row-is g l = split (ltb g (P .groups)) (λ h. row-at g (ltb-true _ _ h)) (λ h. row-past g l (ltb-false _ _ h))
 
     -- a needed group has no tank exactly where the choice is 255
-    lacking-at : (g : ℕ) → g < P .groups → lackingIn (P .rights) row t g ≡ needs P t g && not (served P g wish)
+    lacking-at : (g : ℕ) → g < P .groups → lackingIn (P .sets) (P .group) (P .level) (P .lattice) (P .requirement) (P .rights) (m .levels) (P .tanks) s t g ≡ needs P t g && not (served P g wish)
     unfolding pickFor
-    lacking-at g c = split (eqb (rightsOf P t g) 0) (λ h. rw h)
-        (λ h. rw (h, row-at g c, lt-ltb g (P .groups) c, h)
+    lacking-at g c = rw (pick-same g c) (split (eqb (rightsOf P t g) 0) (λ h. rw h)
+        (λ h. rw (lt-ltb g (P .groups) c, h)
         (split (served P g wish)
         (λ y. rw y (ne-eqb (choice P g wish) 255 (λ z. omega (arith, z, choice-is P X g c wish y .is-nearest .is-tank, X .counts .tanks-fit))))
-        (λ y. rw y (eq-eqb (choice P g wish) 255 (choice-none P X g c wish y)))))
+        (λ y. rw y (eq-eqb (choice P g wish) 255 (choice-none P X g c wish y))))))
 
-    lacking-same : anyBelow (lackingIn (P .rights) row t) (P .groups) ≡ lacking P t wish
+    lacking-same : anyBelow (lackingIn (P .sets) (P .group) (P .level) (P .lattice) (P .requirement) (P .rights) (m .levels) (P .tanks) s t) (P .groups) ≡ lacking P t wish
     unfolding lacking
-    lacking-same = any-same (P .groups) (lackingIn (P .rights) row t) (λ g. needs P t g && not (served P g wish)) lacking-at
-
-  -- 28 is asked behind 25 to 27
-  last-asked : (b c d e : Bool) → cond (eqb (first (b gives 25 ∷ c gives 26 ∷ d gives 27 ∷ [])) 0) (cond e 28 0) (first (b gives 25 ∷ c gives 26 ∷ d gives 27 ∷ []))
-      ≡ first (b gives 25 ∷ c gives 26 ∷ d gives 27 ∷ e gives 28 ∷ [])
-  last-asked true c d e = refl
-  last-asked false true d e = refl
-  last-asked false false true e = refl
-  last-asked false false false true = refl
-  last-asked false false false false = refl
+    lacking-same = any-same (P .groups) (lackingIn (P .sets) (P .group) (P .level) (P .lattice) (P .requirement) (P .rights) (m .levels) (P .tanks) s t) (λ g. needs P t g && not (served P g wish)) lacking-at
 
   module _ (s t : ℕ) where
     abbrev number : ℕ
@@ -164,8 +154,7 @@ module _ (m : Monitor) (i : intact (m .plant) m ≡ true) where
         (λ h. split (leb (P .tasks) t) (λ k. rw (h, k))
         (λ k. let a = leb-false _ _ h in
         let b = leb-false _ _ k in
-        rw (h, k, blank-same s t a b, lacking-same s t a b, running-is s a)
-        (last-asked (not (mayRun P s t)) (not (eqb (getD (m .running) s 0) 255)) (blank P t ((vs s) .level t)) (lacking P t ((vs s) .level t)))))
+        rw (h, k, blank-same s t a b, lacking-same s t a b, running-is s a)))
 
     pub start-answer : number ≡ answer P vs (start s t)
     unfolding answer granted

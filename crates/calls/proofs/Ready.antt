@@ -36,10 +36,6 @@ module _ (m : Monitor) (i : intact (m .plant) m ≡ true) where
   lattices-there = all-yes (m .plant .requirements) (entryBelow (m .plant .lattice) 8)
       (λ d l. lt-ltb (latticeOf (m .plant) d) 8 (omega (arith, plant-valid .lattice-in d l, plant-valid .counts .lattices-fit)))
 
-  pub requirements-there : allBelow (entryBelow (m .plant .requirement) 8) (m .plant .groups) ≡ true
-  requirements-there = all-yes (m .plant .groups) (entryBelow (m .plant .requirement) 8)
-      (λ g l. lt-ltb (requirementOf (m .plant) g) 8 (omega (arith, plant-valid .req-in g l, plant-valid .counts .requirements-fit)))
-
   pub links-there : allBelow (linkIn (m .plant .lattice) (m .plant .requirement)) (m .plant .groups) ≡ true
   links-there = all-yes (m .plant .groups) (linkIn (m .plant .lattice) (m .plant .requirement))
       (λ g l. let r = plant-valid .req-in g l in

@@ -10,14 +10,13 @@ use Rattle.rules.specs.declared.Monitor.{Monitor}
 use Rattle.rules.specs.Rules.{Call, unknown, conditions, refusal, granted, answer}
 use Rattle.rules.specs.Record.{viewOf, intact, stepped}
 use Rattle.calls.specs.Work.{callBy, Lent, Turned}
-use Rattle.calls.proofs.Ready.{lattices-there, requirements-there, links-there, groups-there, levels-there, tasks-known, wishes-known}
+use Rattle.calls.proofs.Ready.{lattices-there, links-there, groups-there, levels-there, tasks-known, wishes-known}
 use Rattle.calls.proofs.Meet.{set-answer, set-record, start-answer, start-record, stop-answer, stop-record, gate-answer, gate-record}
 
 -- what a request leans on
 pub lent : (m : Monitor) → intact (m .plant) m ≡ true → Lent (m .plant .lattice) (m .plant .requirement) (m .plant .group) (m .plant .level) (m .levels) (m .running) (m .plant .skids) (m .plant .tasks) (m .plant .requirements) (m .plant .groups) (m .plant .tanks)
 lent m i = record {
   lattices-there = lattices-there m i;
-  requirements-there = requirements-there m i;
   links-there = links-there m i;
   groups-there = groups-there m i;
   levels-there = levels-there m i;

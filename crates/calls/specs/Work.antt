@@ -3,13 +3,13 @@ use mathlib.Core.Path.{_≡_}
 use mathlib.Core.Logic.{_⊎_}
 use Prim.Native.Nat.{ℕ, _+_, _*_, _<_}
 use mathlib.Core.Bool.{Bool, true, false, not, cond, _&&_, _||_}
-use mathlib.Core.List.{List, [], _∷_}
+use mathlib.Core.List.{List, [], _∷_, _++_}
 use lib.Dec.{eqb, ltb, leb}
 use lib.ListN.{getD, length, replicate}
 use lib.ListN as ListN
 use Rattle.base.specs.Below.{allBelow, anyBelow}
 use Rattle.base.specs.Bits.{bit}
-use Rattle.base.specs.Chain.{_gives_, first}
+use Rattle.base.specs.Chain.{Test, _gives_, first}
 use Rattle.base.specs.Fill.{fill}
 use Rattle.plant.specs.Checks.{entryBelow}
 use Rattle.choice.specs.Search.{choiceIn}
@@ -42,7 +42,7 @@ abbrev pub gateAnswer : List ℕ → List ℕ → List ℕ → List ℕ → ℕ 
 gateAnswer group rights running chosen skids tanks s o r =
     first (leb skids s gives 21 ∷ leb tanks o gives 29 ∷ leb 3 r gives 30 ∷ not (heldIn group rights running chosen s o r) gives 33 ∷ [])
 
--- start: a group on which the task names a right has no level; the row of chosen tanks; a needed group without a tank
+-- start: a group on which the task names a right has no level
 abbrev pub blankIn : List ℕ → List ℕ → List ℕ → ℕ → ℕ → ℕ → Bool
 blankIn requirement rights levels s t g = not (eqb (getD rights (t * 8 + g) 0) 0) && eqb (getD levels (levelAt s t (getD requirement g 0)) 0) 255
 
@@ -55,6 +55,7 @@ pub record Remembered (sets group level lattice requirement : List ℕ) (tanks :
   pub size : length made ≡ 128
   pub right : (g v : ℕ) → g < 8 → v < 16 → (getD made (g * 16 + v) 0 ≡ 254) ⊎ (getD made (g * 16 + v) 0 ≡ groupChoice sets group level lattice requirement tanks g v)
 
+-- the tank for group g, and the row of them; a group on which the task names no right gets none
 abbrev pub pickIn : List ℕ → List ℕ → List ℕ → List ℕ → List ℕ → List ℕ → List ℕ → ℕ → ℕ → ℕ → ℕ → ℕ
 pickIn sets group level lattice requirement rights levels tanks s t g =
     cond (eqb (getD rights (t * 8 + g) 0) 0) 255
@@ -64,14 +65,29 @@ abbrev pub rowIn : List ℕ → List ℕ → List ℕ → List ℕ → List ℕ 
 rowIn sets group level lattice requirement rights levels tanks s t groups =
     fill (pickIn sets group level lattice requirement rights levels tanks s t) (replicate 8 255) groups
 
-abbrev pub lackingIn : List ℕ → List ℕ → ℕ → ℕ → Bool
-lackingIn rights row t g = not (eqb (getD rights (t * 8 + g) 0) 0) && eqb (getD row g 0) 255
+-- start's conditions: those that are asked before any group is looked at
+abbrev pub earlyTests : List ℕ → List ℕ → ℕ → ℕ → ℕ → ℕ → List Test
+earlyTests may running skids tasks s t =
+    leb skids s gives 21 ∷ leb tasks t gives 22 ∷ not (bit (getD may s 0) t) gives 25 ∷ not (eqb (getD running s 0) 255) gives 26 ∷ []
 
--- the numbers of start up to 27
-abbrev pub startEarly : List ℕ → List ℕ → List ℕ → List ℕ → List ℕ → ℕ → ℕ → ℕ → ℕ → ℕ → ℕ
-startEarly may requirement rights levels running skids tasks groups s t =
-    first (leb skids s gives 21 ∷ leb tasks t gives 22 ∷ not (bit (getD may s 0) t) gives 25 ∷ not (eqb (getD running s 0) 255) gives 26
-    ∷ anyBelow (blankIn requirement rights levels s t) groups gives 27 ∷ [])
+-- and those of the groups: one that the task needs has no level (above), or no tank
+module _ (sets group level lattice requirement rights levels : List ℕ) (tanks s t : ℕ) where
+  abbrev pub lackingIn : ℕ → Bool
+  lackingIn g = not (eqb (getD rights (t * 8 + g) 0) 0) && eqb (pickIn sets group level lattice requirement rights levels tanks s t g) 255
+
+  -- 27 of any group comes before 28 of any
+  abbrev pub rowTests : ℕ → List Test
+  rowTests groups = anyBelow (blankIn requirement rights levels s t) groups gives 27 ∷ anyBelow lackingIn groups gives 28 ∷ []
+
+  -- what is found at one group, whose tank goes to the row
+  pub record GroupDone (g : ℕ) (row : List ℕ) (number : ℕ) (row′ : List ℕ) : Type 0 where
+    pub answers : number ≡ first (blankIn requirement rights levels s t g gives 27 ∷ lackingIn g gives 28 ∷ [])
+    pub chooses : row′ ≡ cond (blankIn requirement rights levels s t g) row (ListN.set row g (pickIn sets group level lattice requirement rights levels tanks s t g))
+
+  -- what is found over all groups; nobody reads the row of a start that is refused
+  pub record RowDone (groups number : ℕ) (row′ : List ℕ) : Type 0 where
+    pub answers : number ≡ first (rowTests groups)
+    pub chooses : number ≡ 0 → row′ ≡ rowIn sets group level lattice requirement rights levels tanks s t groups
 
 -- an entry of a row of choices
 abbrev pub getRow : List ℕ → ℕ → ℕ
@@ -100,10 +116,7 @@ module _ (sets group level lattice requirement rights may levels running chosen 
   startRow = rowIn sets group level lattice requirement rights levels tanks s t groups
 
   abbrev pub startNumber : ℕ
-  startNumber =
-      cond (eqb (startEarly may requirement rights levels running skids tasks groups s t) 0)
-      (cond (anyBelow (lackingIn rights startRow t) groups) 28 0)
-      (startEarly may requirement rights levels running skids tasks groups s t)
+  startNumber = first (earlyTests may running skids tasks s t ++ rowTests sets group level lattice requirement rights levels tanks s t groups)
 
   pub record Started (number : ℕ) (running′ chosen′ : List ℕ) : Type 0 where
     pub answers : number ≡ startNumber
@@ -136,7 +149,6 @@ module _ (sizes sets lattice requirement group level rights may levels running c
 -- What every request leans on, in the arrays: links within their counts, and stored tasks and levels that can be looked up.
 pub record Lent (lattice requirement group level levels running : List ℕ) (skids tasks requirements groups tanks : ℕ) : Type 0 where
   pub lattices-there : allBelow (entryBelow lattice 8) requirements ≡ true
-  pub requirements-there : allBelow (entryBelow requirement 8) groups ≡ true
   pub links-there : allBelow (linkIn lattice requirement) groups ≡ true
   pub groups-there : allBelow (entryBelow group 8) tanks ≡ true
   pub levels-there : allBelow (entryBelow level 16) tanks ≡ true

@@ -3,10 +3,11 @@ ghost use mathlib.Core.Path.{_≡_};
 ghost use mathlib.Core.Bool.{true, false};
 ghost use Prim.Native.Nat.{ℕ, _+_, _*_, _<_, _≤_};
 ghost use lib.ListN.{getD, replicate, set};
-ghost use Rattle.base.specs.Below.{allBelow, anyBelow};
+ghost use Rattle.base.specs.Below.{allBelow};
+ghost use Rattle.base.specs.Chain.{first};
 ghost use Rattle.plant.specs.Checks.{entryBelow};
 ghost use Rattle.rules.specs.Record.{fillFrom};
-ghost use Rattle.calls.specs.Work.{taskKnown, levelKnown, setNumber, setLevels, gateAnswer, blankIn, pickIn, rowIn, lackingIn, startEarly, linkIn, wishKnown, Lent, Started, Turned, heldIn, getRow, groupChoice, Remembered, stopNumber, stopRunning, stopChosen};
+ghost use Rattle.calls.specs.Work.{taskKnown, levelKnown, setNumber, setLevels, gateAnswer, earlyTests, linkIn, wishKnown, Lent, GroupDone, RowDone, Started, Turned, heldIn, getRow, groupChoice, Remembered, stopNumber, stopRunning, stopChosen};
 use choice::choose;
 
 fn wide(x: u8) -> usize
@@ -107,45 +108,6 @@ pub fn is_held<'a, 'b>(
     chosen[s * 8 + g] == o
 }
 
-// 27 at group g: the task has a right there and the level of its requirement is unset.
-fn is_blank<'a>(
-    requirement: &'a [u8; 8],
-    rights: &'a [u8; 128],
-    levels: &[u8; 1024],
-    s: usize,
-    t: usize,
-    g: usize,
-) -> bool
-    requires { ⌜ (s < 8) × ((t < 16) × ((g < 8) × (getD (now requirement) g 0 < 8))) ⌝ }
-    ensures { λ r. ⌜ r ≡ blankIn (now (requirement .entry)) (now (rights .entry)) (now (levels .entry)) s t g ⌝ }
-{
-    if rights[t * 8 + g] == 0 {
-        return false;
-    }
-    let d = wide(requirement[g]);
-    levels[(s * 16 + t) * 8 + d] == 255
-}
-
-fn any_blank<'a>(
-    requirement: &'a [u8; 8],
-    rights: &'a [u8; 128],
-    levels: &[u8; 1024],
-    groups: usize,
-    s: usize,
-    t: usize,
-) -> bool
-    requires { ⌜ (s < 8) × ((t < 16) × (groups ≤ 8)) ⌝ }
-    requires { ⌜ allBelow (entryBelow (now requirement) 8) groups ≡ true ⌝ }
-    ensures { λ r. ⌜ r ≡ anyBelow (blankIn (now (requirement .entry)) (now (rights .entry)) (now (levels .entry)) s t) groups ⌝ }
-{
-    for g in 0..groups {
-        if is_blank(requirement, rights, levels, s, t, g) {
-            return true;
-        }
-    }
-    false
-}
-
 // The skid's eight choices: written whole, so that nothing stale is left.
 fn put_row(chosen: &mut [u8; 64], s: usize, row: [u8; 8])
     requires { ⌜ s < 8 ⌝ }
@@ -198,8 +160,9 @@ fn choose_once<'a>(
     o
 }
 
-// The tank for group g: the choice under the skid's level where the task has a right there, and else 255.
-fn pick_at<'a>(
+// Group g of a start, and its own number: 27 where the task has a right there and the level is unset, 28 where no tank was found, else 0.
+// The tank goes to `row`, which is empty at g: where the task has no right it stays so.
+fn choose_at<'a>(
     sets: &'a [u16; 128],
     group: &'a [u8; 64],
     level: &'a [u8; 64],
@@ -208,6 +171,7 @@ fn pick_at<'a>(
     rights: &'a [u8; 128],
     levels: &[u8; 1024],
     made: &mut [u8; 128],
+    row: &mut [u8; 8],
     tanks: u8,
     s: usize,
     t: usize,
@@ -216,19 +180,27 @@ fn pick_at<'a>(
     requires { ⌜ (s < 8) × ((t < 16) × ((g < 8) × (tanks ≤ 64))) ⌝ }
     requires { ⌜ (getD (now requirement) g 0 < 8) × (getD (now lattice) (getD (now requirement) g 0) 0 < 8) ⌝ }
     requires { ⌜ allBelow (entryBelow (now level) 16) tanks ≡ true ⌝ }
-    requires { ⌜ (blankIn (now requirement) (now rights) (now levels) s t g ≡ false) × (levelKnown (now levels) s t (getD (now requirement) g 0) ≡ true) ⌝ }
+    requires { ⌜ (levelKnown (now levels) s t (getD (now requirement) g 0) ≡ true) × (getD (now row) g 0 ≡ 255) ⌝ }
     requires { ⌜ Remembered (now sets) (now group) (now level) (now lattice) (now requirement) tanks (now made) ⌝ }
-    ensures { λ r. ⌜ (r ≡ pickIn (now (sets .entry)) (now (group .entry)) (now (level .entry)) (now (lattice .entry)) (now (requirement .entry)) (now (rights .entry)) (now (levels .entry)) tanks s t g) × Remembered (now (sets .entry)) (now (group .entry)) (now (level .entry)) (now (lattice .entry)) (now (requirement .entry)) tanks (now (made .exit)) ⌝ }
+    ensures { λ r. ⌜ (GroupDone (now (sets .entry)) (now (group .entry)) (now (level .entry)) (now (lattice .entry)) (now (requirement .entry)) (now (rights .entry)) (now (levels .entry)) tanks s t g (now (row .entry)) r (now (row .exit))) × Remembered (now (sets .entry)) (now (group .entry)) (now (level .entry)) (now (lattice .entry)) (now (requirement .entry)) tanks (now (made .exit)) ⌝ }
 {
     if rights[t * 8 + g as usize] == 0 {
-        return 255;
+        return 0;
     }
     let d = wide(requirement[g as usize]);
     let v = levels[(s * 16 + t) * 8 + d];
-    choose_once(sets, group, level, lattice, requirement, made, tanks, g, v)
+    if v == 255 {
+        return 27;
+    }
+    let o = choose_once(sets, group, level, lattice, requirement, made, tanks, g, v);
+    row[g as usize] = o;
+    if o == 255 {
+        return 28;
+    }
+    0
 }
 
-// The skid's row of choices for a task whose levels are set.
+// The skid's row of choices for a task: 27, 28 or 0. 27 of any group comes before 28 of any, so that 27 alone ends the loop.
 fn choose_row<'a>(
     sets: &'a [u16; 128],
     group: &'a [u8; 64],
@@ -238,22 +210,23 @@ fn choose_row<'a>(
     rights: &'a [u8; 128],
     levels: &[u8; 1024],
     made: &mut [u8; 128],
+    row: &mut [u8; 8],
     tanks: u8,
     s: usize,
     t: usize,
     groups: u8,
-) -> [u8; 8]
+) -> u8
     requires { ⌜ (s < 8) × ((t < 16) × ((groups ≤ 8) × (tanks ≤ 64))) ⌝ }
     requires { ⌜ allBelow (linkIn (now lattice) (now requirement)) groups ≡ true ⌝ }
     requires { ⌜ allBelow (entryBelow (now level) 16) tanks ≡ true ⌝ }
-    requires { ⌜ (anyBelow (blankIn (now requirement) (now rights) (now levels) s t) groups ≡ false) × (allBelow (wishKnown (now requirement) (now levels) s t) groups ≡ true) ⌝ }
+    requires { ⌜ (allBelow (wishKnown (now requirement) (now levels) s t) groups ≡ true) × (now row ≡ replicate 8 255) ⌝ }
     requires { ⌜ Remembered (now sets) (now group) (now level) (now lattice) (now requirement) tanks (now made) ⌝ }
-    ensures { λ r. ⌜ (r ≡ rowIn (now (sets .entry)) (now (group .entry)) (now (level .entry)) (now (lattice .entry)) (now (requirement .entry)) (now (rights .entry)) (now (levels .entry)) tanks s t groups) × Remembered (now (sets .entry)) (now (group .entry)) (now (level .entry)) (now (lattice .entry)) (now (requirement .entry)) tanks (now (made .exit)) ⌝ }
+    ensures { λ r. ⌜ (RowDone (now (sets .entry)) (now (group .entry)) (now (level .entry)) (now (lattice .entry)) (now (requirement .entry)) (now (rights .entry)) (now (levels .entry)) tanks s t groups r (now (row .exit))) × Remembered (now (sets .entry)) (now (group .entry)) (now (level .entry)) (now (lattice .entry)) (now (requirement .entry)) tanks (now (made .exit)) ⌝ }
 {
-    let mut row = [255u8; 8];
+    let mut number: u8 = 0;
     let mut g: u8 = 0;
     while g < groups {
-        row[g as usize] = pick_at(
+        let own = choose_at(
             sets,
             group,
             level,
@@ -262,55 +235,27 @@ fn choose_row<'a>(
             rights,
             levels,
             made,
+            row,
             tanks,
             s,
             t,
             g,
         );
+        if own == 27 {
+            return own;
+        }
+        if own == 28 {
+            number = 28;
+        }
         g += 1;
     }
-    row
+    number
 }
 
-// 28 at group g: the task has a right there and no tank was found.
-fn is_lacking(rights: &[u8; 128], row: [u8; 8], t: usize, g: usize) -> bool
-    requires { ⌜ (t < 16) × (g < 8) ⌝ }
-    ensures { λ r. ⌜ r ≡ lackingIn (now (rights .entry)) row t g ⌝ }
-{
-    if rights[t * 8 + g] == 0 {
-        return false;
-    }
-    row[g] == 255
-}
-
-fn any_lacking(rights: &[u8; 128], row: [u8; 8], t: usize, groups: usize) -> bool
-    requires { ⌜ (t < 16) × (groups ≤ 8) ⌝ }
-    ensures { λ r. ⌜ r ≡ anyBelow (lackingIn (now (rights .entry)) row t) groups ⌝ }
-{
-    for g in 0..groups {
-        if is_lacking(rights, row, t, g) {
-            return true;
-        }
-    }
-    false
-}
-
-// Start up to 27, before any tank is looked for.
-fn start_early<'a, 'b>(
-    may: &'a [u16; 8],
-    requirement: &'a [u8; 8],
-    rights: &'a [u8; 128],
-    levels: &'b [u8; 1024],
-    running: &'b [u8; 8],
-    skids: u8,
-    tasks: u8,
-    groups: u8,
-    s: u8,
-    t: u8,
-) -> u8
-    requires { ⌜ (skids ≤ 8) × ((tasks ≤ 16) × (groups ≤ 8)) ⌝ }
-    requires { ⌜ allBelow (entryBelow (now requirement) 8) groups ≡ true ⌝ }
-    ensures { λ r. ⌜ r ≡ startEarly (now (may .entry)) (now (requirement .entry)) (now (rights .entry)) (now (levels .entry)) (now (running .entry)) skids tasks groups s t ⌝ }
+// Start up to 26, before any group is looked at.
+fn start_early(may: &[u16; 8], running: &[u8; 8], skids: u8, tasks: u8, s: u8, t: u8) -> u8
+    requires { ⌜ (skids ≤ 8) × (tasks ≤ 16) ⌝ }
+    ensures { λ r. ⌜ r ≡ first (earlyTests (now (may .entry)) (now (running .entry)) skids tasks s t) ⌝ }
 {
     if skids <= s {
         return 21;
@@ -323,16 +268,6 @@ fn start_early<'a, 'b>(
     }
     if running[s as usize] != 255 {
         return 26;
-    }
-    if any_blank(
-        requirement,
-        rights,
-        levels,
-        groups as usize,
-        s as usize,
-        t as usize,
-    ) {
-        return 27;
     }
     0
 }
@@ -358,28 +293,18 @@ fn start_at<'a>(
     t: u8,
 ) -> u8
     requires { ⌜ (skids ≤ 8) × ((tasks ≤ 16) × ((groups ≤ 8) × (tanks ≤ 64))) ⌝ }
-    requires { ⌜ (allBelow (linkIn (now lattice) (now requirement)) groups ≡ true) × (allBelow (entryBelow (now requirement) 8) groups ≡ true) ⌝ }
+    requires { ⌜ allBelow (linkIn (now lattice) (now requirement)) groups ≡ true ⌝ }
     requires { ⌜ allBelow (entryBelow (now level) 16) tanks ≡ true ⌝ }
     requires { ⌜ Remembered (now sets) (now group) (now level) (now lattice) (now requirement) tanks (now made) ⌝ }
     requires { ⌜ (s < skids → t < tasks → allBelow (wishKnown (now requirement) (now levels) s t) groups ≡ true) ⌝ }
     ensures { λ r. ⌜ (Started (now (sets .entry)) (now (group .entry)) (now (level .entry)) (now (lattice .entry)) (now (requirement .entry)) (now (rights .entry)) (now (may .entry)) (now (levels .entry)) (now (running .entry)) (now (chosen .entry)) skids tasks groups tanks s t r (now (running .exit)) (now (chosen .exit))) × Remembered (now (sets .entry)) (now (group .entry)) (now (level .entry)) (now (lattice .entry)) (now (requirement .entry)) tanks (now (made .exit)) ⌝ }
 {
-    let early = start_early(
-        may,
-        requirement,
-        rights,
-        levels,
-        running,
-        skids,
-        tasks,
-        groups,
-        s,
-        t,
-    );
+    let early = start_early(may, running, skids, tasks, s, t);
     if early != 0 {
         return early;
     }
-    let row = choose_row(
+    let mut row = [255u8; 8];
+    let number = choose_row(
         sets,
         group,
         level,
@@ -388,13 +313,14 @@ fn start_at<'a>(
         rights,
         levels,
         made,
+        &mut row,
         tanks,
         s as usize,
         t as usize,
         groups,
     );
-    if any_lacking(rights, row, t as usize, groups as usize) {
-        return 28;
+    if number != 0 {
+        return number;
     }
     running[s as usize] = t;
     put_row(chosen, s as usize, row);

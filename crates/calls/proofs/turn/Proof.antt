@@ -21,7 +21,7 @@ start-at-requires c κs =
     let s = c .before .before .before .before .before .before in
     let n = s .pre .0 in
     let h = s .pre .1 .0 in
-    ((n .0, (n .1 .0, (n .1 .1 .1 .0, n .1 .1 .1 .1))), ((h .links-there, h .requirements-there), (h .levels-there, (s .pre .1 .1, h .wishes-known (s .args .a) (s .args .b)))))
+    ((n .0, (n .1 .0, (n .1 .1 .1 .0, n .1 .1 .1 .1))), (h .links-there, (h .levels-there, (s .pre .1 .1, h .wishes-known (s .args .a) (s .args .b)))))
 
 returns-2 : tie.Need-returns-2
 returns-2 c =
