@@ -1,0 +1,23 @@
+-- `plant::numbers::tanks_within` meets its contract: a scan over the tanks. Assumes nothing.
+use Prim.Native.Nat.{ℕ, _+_, _*_, _≤_, _-_}
+use mathlib.Core.Path.{_≡_}
+use mathlib.Core.Bool.{true, false, not}
+use lib.ListN.{getD}
+use Rattle.base.specs.Below.{allBelow, anyBelow}
+use Rattle.base.proofs.Scan.{scan}
+use Rattle.plant.specs.Checks.{tankIn}
+use Rattle.plant.specs.Plant.{groupOf, levelOf}
+use borrow.Author.Needs.{needs}
+use Rattle.plant.proofs.numbers.tanks_within.Statement.{statement}
+use Rattle.plant.proofs.numbers.tanks_within.Tie as tie
+
+abbrev Inv-loop : tie.InvT-loop
+Inv-loop levels p n o₀ o = (o ≤ n) × (allBelow (λ (x : ℕ). tankIn levels (p .groups) (groupOf p x) (levelOf p x)) o ≡ true)
+
+abbrev μ-loop : tie.MeasureT-loop
+μ-loop levels p n o₀ o = n - o
+
+pub tanks-within-spec : {M : Type 1} → statement M
+tanks-within-spec =
+    tie.close
+    (tie.spec Inv-loop μ-loop (λ c. search (needs, scan)) (λ c. search (needs, scan)) (λ c. search (needs, scan)) (λ c. search (needs, scan)) (λ c κs. search (needs, scan)) (λ c. search (needs, scan)) (λ c. search (needs, scan)) (λ c. search (needs, scan)) (λ c. search (needs, scan)) (λ c. search (needs, scan)))
