@@ -222,8 +222,5 @@ pub fn is_intact(m: Monitor) -> bool
     if refusal(p, true, true) != 0 {
         return false;
     }
-    let levels = m.levels;
-    let running = m.running;
-    let chosen = m.chosen;
-    parts_ok(p, &levels, &running, &chosen)
+    parts_ok(p, &m.levels, &m.running, &m.chosen)
 }
