@@ -1,12 +1,12 @@
--- A number's decimal text: how it is made digit by digit, that it says the number, and how long it is. Assumes nothing.
+-- A number's decimal text: how it is made digit by digit, that it says the number and no other text does, and how long it is. Assumes nothing.
 use Prim.Native.Nat.{ℕ, zero, suc, _+_, _-_, _*_, _/_, _%_, _^_, _≤_, _<_}
-use mathlib.Core.Path.{_≡_, refl, ap}
+use mathlib.Core.Path.{_≡_, refl, sym, ap, ap₂, _∙_}
 use mathlib.Core.List.{List, [], _∷_, _++_}
 use native.Mathlib.Nat.{mod-lt, div-add-mod', div-lt-iff-lt-mul, pow-suc}
 use native.Mathlib.Decide.{decLt}
 use native.Mathlib.Omega.{arith}
-use lib.ListN.{length, getD, length-append, List·getD-append}
-use lib.Seq.{getD-append-seam}
+use lib.ListN.{length, getD, take, length-append, List·getD-append}
+use lib.Seq.{getD-append-seam, take-all, take-suc, length-take-le, getD-take}
 use borrow.Author.Tests.{lt-ltb, le-ltb}
 use Rattle.printing.specs.Decimal.{digit, digitsIn, decimal, readOn, Says}
 
@@ -106,6 +106,75 @@ says n = record {
     | no l ↦ no-zero-first n (omega arith)
   ];
 }
+
+-- what was seen is never lost
+seen-kept : (text : List ℕ) (seen : ℕ) → seen ≤ readOn seen text
+unfolding readOn
+seen-kept [] seen = omega arith
+seen-kept (c ∷ text) seen = omega (arith, seen-kept text (seen * 10 + (c - 48)))
+
+-- a text that begins with no zero says no zero
+some-number : (text : List ℕ) → 0 < length text → 48 < getD text 0 0 → 0 < readOn 0 text
+unfolding readOn
+some-number [] a b = absurd (omega arith)
+some-number (c ∷ text) a b = omega (arith, b, seen-kept text (0 * 10 + (c - 48)))
+
+-- one digit alone
+only-small : (text : List ℕ) (n : ℕ) → length text ≡ 1 → Says n text → text ≡ decimal n
+unfolding readOn
+only-small [] n e w = absurd (omega arith)
+only-small (c ∷ d ∷ text) n e w = absurd (omega arith)
+only-small (c ∷ []) n e w =
+    let b = w .digits 0 (omega arith) in
+    let r : c ≡ digit n = omega (arith, w .reads, b .0) in
+    rw (decimal-small n (omega (arith, w .reads, b .0, b .1)), r)
+
+-- the text without its last digit says a tenth of the number
+module _ (text : List ℕ) (n j : ℕ) (e : length text ≡ suc (suc j)) (w : Says n text) where
+  abbrev front : List ℕ
+  front = take (suc j) text
+
+  abbrev end : ℕ
+  end = getD text (suc j) 0
+
+  parts : text ≡ front ++ (end ∷ [])
+  parts = sym (take-all (suc (suc j)) text (omega arith)) ∙ take-suc text (suc j) 0 (omega arith)
+
+  front-long : length front ≡ suc j
+  front-long = length-take-le (suc j) text (omega arith)
+
+  front-at : (i : ℕ) → i < suc j → getD front i 0 ≡ getD text i 0
+  front-at i l = getD-take (suc j) text i 0 l
+
+  both-read : readOn 0 front * 10 + (end - 48) ≡ n
+  both-read = sym (read-more front 0 end) ∙ ap (readOn 0) (sym parts) ∙ w .reads
+
+  front-says : Says (n / 10) front
+  front-says = record {
+    reads = let d = w .digits (suc j) (omega arith) in omega (arith, both-read, tenth n, last-digit n, d .0, d .1);
+    digits = λ i l. let b : i < suc j = omega (arith, front-long) in rw (front-at i b) (w .digits i (omega arith));
+    something = omega (arith, front-long);
+    lead = λ l. rw (front-at 0 (omega arith)) (w .lead (omega arith));
+  }
+
+  over-nine : 10 ≤ n
+  over-nine =
+      let first : 48 < getD front 0 0 = rw (front-at 0 (omega arith)) (w .lead (omega arith)) in
+      omega (arith, both-read, some-number front (omega (arith, front-long)) first)
+
+  end-is : end ≡ digit (n % 10)
+  end-is = let d = w .digits (suc j) (omega arith) in omega (arith, both-read, front-says .reads, tenth n, d .0)
+
+only-of : (k : ℕ) (text : List ℕ) (n : ℕ) → length text ≡ suc k → Says n text → text ≡ decimal n
+only-of zero text n e w = only-small text n e w
+only-of (suc j) text n e w =
+    parts text n j e w
+    ∙ ap₂ (λ (front : List ℕ) (end : ℕ). front ++ (end ∷ [])) (only-of j (front text n j e w) (n / 10) (front-long text n j e w) (front-says text n j e w)) (end-is text n j e w)
+    ∙ sym (decimal-more n (over-nine text n j e w))
+
+-- no other text says the number
+pub says-only : (n : ℕ) (text : List ℕ) → Says n text → text ≡ decimal n
+says-only n text w = only-of (length text - 1) text n (omega (arith, w .something)) w
 
 -- k + 1 digits hold n
 pub decimal-short : (k n : ℕ) → n < 10 ^ suc k → length (decimal n) ≤ suc k

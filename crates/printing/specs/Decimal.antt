@@ -28,7 +28,7 @@ unfoldable pub readOn : ℕ → List ℕ → ℕ
 readOn seen [] = seen
 readOn seen (c ∷ text) = readOn (seen * 10 + (c - 48)) text
 
--- a text is the number n in base ten (proofs/Decimal has that `decimal n` is)
+-- A text is the number n in base ten. proofs/Decimal has that `decimal n` is (`says`), and that no other text is (`says-only`).
 pub record Says (n : ℕ) (text : List ℕ) : Type 0 where
   pub reads : readOn 0 text ≡ n
   pub digits : (i : ℕ) → i < length text → (48 ≤ getD text i 0) × (getD text i 0 ≤ 57)
