@@ -39,6 +39,10 @@ module _ {A : Type 0} (f : ℕ → A) (xs : List A) where
       (λ lt. getD-set-other (fill f xs n) n k (f n) d (λ q. omega (arith, q)) ∙ fill-at n k d (omega arith) lt)
       (eq-or-lt-of-le (le-of-suc-le-suc l))
 
+  -- the entry that comes next is as it was
+  pub fill-entry : (n : ℕ) (d : A) {ys : List A} → ys ≡ fill f xs n → getD ys n d ≡ getD xs n d
+  fill-entry n d h = ap (λ (zs : List A). getD zs n d) h ∙ fill-past n n d (omega arith)
+
   pub fill-ends : (i n : ℕ) {ys : List A} → i ≤ n → n ≤ i → ys ≡ fill f xs i → ys ≡ fill f xs n
   fill-ends i n a b h = h ∙ ap (fill f xs) (le-antisymm a b)
 
