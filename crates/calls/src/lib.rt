@@ -1,4 +1,5 @@
-// The work of set, start, stop and gate on lent arrays. Whoever calls it has tested the record first, once for a call or once for a list of them.
+// The work of set, start, stop and gate on lent arrays. Whoever calls it knows that the record passes test 20: it was tested, or is the fresh
+// one of an accepted plant, and no call makes it fail.
 mod start;
 
 ghost use mathlib.Core.Path.{_≡_};

@@ -28,7 +28,7 @@ pub data Case : Type 0 where
   opening : List ℕ → ℕ → Case
   -- a plant file, calls from its fresh monitor, and their answers
   answers : List ℕ → List Call → List ℕ → Case
-  -- the same, and every right held at the end: skid, tank, right, rising in that order
+  -- a plant file, calls from its fresh monitor, and every right held at the end: skid, tank, right, rising in that order
   held : List ℕ → List Call → List ℕ → Case
   -- a plant file, request bytes and the bytes that the batch writes
   batch : List ℕ → List ℕ → List ℕ → Case

@@ -11,8 +11,8 @@ use Rattle.plant.specs.Plant.{under, requirementOf, groupOf, levelOf, sameLevel
 abbrev pub unset : ℕ
 unset = 255
 
--- How tanks of a group compare, with each other and with a wish. Only these three definitions, and their laws in proofs/Tanks, know how
--- many requirements a group has.
+-- How tanks of a group compare, with each other and with a wish. In the choice only these three definitions, and their laws in proofs/Tanks,
+-- know how many requirements a group has; the search (Search) says the same of the arrays.
 module _ (P : Plant) (g : ℕ) where
   -- tank o is at or under the wish
   unfoldable pub fits : (ℕ → ℕ) → ℕ → Bool

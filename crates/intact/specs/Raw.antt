@@ -31,8 +31,8 @@ Free xs requirements = (d : ℕ) → requirements ≤ d → d < 8 → getD xs d 
 abbrev pub levelIn : ℕ → ℕ → Bool
 levelIn v n = eqb v unset || ltb v n
 
--- Levels of each requirement in one row, a row for each skid and task; of each task of a skid; of each skid. xs has the number of levels
--- of each requirement.
+-- A level passes, at its requirement's place in the row of a skid and a task; all of such a row; all rows of a skid. xs has the number of
+-- levels of each requirement.
 abbrev pub rowIn : List ℕ → List ℕ → ℕ → ℕ → Bool
 rowIn levels xs row d = levelIn (getD levels (row * 8 + d) 0) (getD xs d 0)
 

@@ -150,7 +150,7 @@ fn turned(s: &[u16; 16]) -> [u16; 16]
     t
 }
 
-// Each of n levels is in the set x.
+// The set x has n levels, the lowest numbers, and no other: so each of them is in it.
 fn is_all(x: u16, n: usize) -> bool
     requires { ⌜ n ≤ 16 ⌝ }
     ensures { λ r. ⌜ (r ≡ true → allBelow (bit x) n ≡ true) ⌝ }

@@ -23,7 +23,7 @@ fn all_below(xs: &[u8; 8], n: usize, bound: u8) -> bool
     true
 }
 
-// How many levels the requirement of each group has.
+// How many levels the requirement of a group has, and the list of these.
 fn levels_at<'a>(sizes: &'a [u8; 8], lattice: &'a [u8; 8], requirement: &'a [u8; 8], g: usize) -> u8
     requires { ⌜ (g < 8) × ((getD (now requirement) g 0 < 8) × (getD (now lattice) (getD (now requirement) g 0) 0 < 8)) ⌝ }
     ensures { λ r. ⌜ r ≡ levelsFrom (now (sizes .entry)) (now (lattice .entry)) (now (requirement .entry)) g ⌝ }

@@ -52,7 +52,8 @@ fn put_place(text: &mut [u8], at: usize, m: u32) -> usize
     put_digit(text, at, m % 10)
 }
 
-// A place that n does not reach has no digit. Five fixed divisions of 32 bits take half the instructions of a recursion over the digits.
+// A place that n does not reach has no digit. Five places by fixed divisions of 32 bits take half the instructions of a recursion over the
+// digits.
 fn put_number(text: &mut [u8], at: usize, n: u32) -> usize
     requires { ⌜ (n < 100000) × (at + length (decimal n) ≤ length (now text)) ⌝ }
     ensures { λ r. ⌜ Wrote (decimal n) (now (text .entry)) at (now (text .exit)) r ⌝ }

@@ -13,7 +13,7 @@ use Rattle.rules.specs.History.{dues, history, own, mine}
 use Rattle.rules.specs.Rights.{Runs, Gives}
 
 pub record Demand3 (P : Plant) (cs : List Call) : Type 0 where
-  -- Every answer is the history's, and test 20 refuses none on the way.
+  -- Every answer is the history's, which is never 20, and the record that is left passes test 20.
   pub answers : replies (fresh P) cs ≡ dues P [] cs
   pub never-20 : intact P (final (fresh P) cs) ≡ true
   -- A right is held, and a gate call for it would return 0, exactly where the history gives it.

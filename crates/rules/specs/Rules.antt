@@ -1,6 +1,6 @@
 -- The calls and their conditions, in the paper's order, read over what is known of each skid: its levels, its running task and its chosen tanks.
--- They are written once. The record and the history each give such views (Record, History), and nobody but the laws in proofs/Accepted,
--- proofs/Strike and proofs/Words opens the conditions.
+-- They are written once. The record and the history each give such views (Record, History). In this crate nobody but the laws in
+-- proofs/Accepted, proofs/Strike and proofs/Words opens the conditions; above it those that tie the code to them do (crate calls, proofs/Meet).
 use Prim.Native.Nat.{ℕ}
 use mathlib.Core.Bool.{Bool, true, cond, not, _&&_}
 use mathlib.Core.List.{List, [], _∷_}

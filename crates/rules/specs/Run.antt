@@ -1,4 +1,4 @@
--- A list of calls with test 20 left out: what a queue does after it has tested the record once.
+-- A list of calls with test 20 left out: what is done with a record that is known to pass it, as the fresh one of a batch.
 use mathlib.Core.Path.{_≡_}
 use mathlib.Core.Logic.{_≢_}
 use Prim.Native.Nat.{ℕ}
