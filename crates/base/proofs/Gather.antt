@@ -9,10 +9,6 @@ use lib.Pow.{pow-pos, pow-add}
 use Rattle.base.specs.Gather.{gather}
 
 module _ (d : ℕ → ℕ) where
-  pub gather-none : _≡_ {A = ℕ} 0 (gather d 0)
-  unfolding gather
-  gather-none = refl
-
   pub gather-more : (n : ℕ) {x : ℕ} → x ≡ gather d n → x + d n * 2 ^ n ≡ gather d (n + 1)
   unfolding gather
   gather-more n e = rw (add-one, e)

@@ -10,6 +10,7 @@ ghost use Rattle.base.specs.Below.{allBelow};
 ghost use Rattle.plant.specs.Checks.{entryBelow};
 ghost use Rattle.rules.specs.Record.{fillFrom};
 ghost use Rattle.calls.specs.Work.{taskKnown, setNumber, setLevels, gateAnswer, Lent, Turned, heldIn, getRow, Remembered, stopNumber, stopRunning, stopChosen};
+use plant::Right;
 use start::start_at;
 
 fn wide(x: u8) -> usize
@@ -75,7 +76,7 @@ fn gate_at<'a, 'b>(
     if tanks <= o {
         return 29;
     }
-    if 3 <= r {
+    if !Right::valid(r) {
         return 30;
     }
     if !is_held(group, rights, running, chosen, s as usize, o, r) {
