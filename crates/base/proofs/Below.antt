@@ -1,13 +1,13 @@
 -- What the tests over the indexes below a bound say: each index, some index, the lowest index. Assumes nothing.
 use mathlib.Core.Path.{_≡_, refl, sym, ap, ap₂, _∙_}
-use Prim.Native.Nat.{ℕ, zero, suc, _+_, _≤_, _<_}
+use Prim.Native.Nat.{ℕ, zero, suc, _≤_, _<_}
 use lib.Dec.{eqb}
 use borrow.Author.Tests.{eq-eqb, ne-eqb}
 use native.Mathlib.Omega.{arith}
 use native.Mathlib.Decide.{ℕ-discrete, decLt}
-use mathlib.Core.Bool.{Bool, true, false, cond, not, _&&_, _||_}
+use mathlib.Core.Bool.{Bool, true, false, not, _&&_, _||_}
 use Rattle.base.specs.Below.{allBelow, anyBelow, firstBelow}
-use Rattle.base.proofs.Logic.{split, true-false, and-true, or-false, or-cases, or-left, or-right, same-test}
+use Rattle.base.proofs.Logic.{split, true-false, and-true, or-false, or-cases, or-left, or-right}
 
 pub all-yes : (n : ℕ) (p : ℕ → Bool) → ((i : ℕ) → i < n → p i ≡ true) → allBelow p n ≡ true
 unfolding allBelow

@@ -2,7 +2,7 @@
 use mathlib.Core.Path.{_≡_, refl, sym, ap, ap₂, subst, _∙_}
 use mathlib.Core.Bool.{Bool, true, false, cond, not, _&&_, _||_}
 use Prim.Native.Nat.{ℕ, zero, suc, _+_, _*_, _/_, _%_, _^_, _-_, _≤_, _<_, min, max}
-use native.Mathlib.Nat.{mul-add-mod-self-right, div-add-mod', div-one, mod-lt, pow-suc, div-div-eq-div-mul, mul-comm, zero-lt-suc, div-lt-iff-lt-mul, div-eq-of-lt, zero-div, lt-of-le-of-lt, div-le-self, one-mul}
+use native.Mathlib.Nat.{mul-add-mod-self-right, div-add-mod', div-one, mod-lt, pow-suc, zero-lt-suc, div-lt-iff-lt-mul, div-eq-of-lt, zero-div, lt-of-le-of-lt, div-le-self, one-mul}
 use native.Mathlib.Omega.{arith}
 use native.Mathlib.Decide.{decLt}
 use lib.Dec.{eqb}
@@ -10,7 +10,7 @@ use lib.Bits.{bitAnd, bitOr, bitXor, differ, and-shr, and-step, or-shr, or-step,
 use lib.Pow.{shr-shr, shl-shr, pow-pos, pow-add, pow-lt}
 use borrow.Author.Tests.{eqb-true, eqb-false, eq-eqb, ne-eqb}
 use Rattle.base.specs.Bits.{bit, noneFrom}
-use Rattle.base.proofs.Logic.{split, true-false, same-test, and-true, and-both}
+use Rattle.base.proofs.Logic.{split, true-false}
 
 -- bit i of a number shifted down by n is bit n + i
 pub bit-shift : (x n i : ℕ) → bit (x / 2 ^ n) i ≡ bit x (n + i)

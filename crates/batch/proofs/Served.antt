@@ -1,10 +1,9 @@
 -- A loop over request bytes makes the run of their calls from the fresh monitor. Assumes nothing.
 use mathlib.Core.Path.{_≡_, refl, sym, ap, subst, _∙_}
-use Prim.Native.Nat.{ℕ, zero, suc, _+_, _*_, _≤_, _<_}
-use native.Mathlib.Nat.{zero-add}
+use Prim.Native.Nat.{ℕ, zero, suc, _+_, _<_}
 use native.Mathlib.Numerals.{add-one}
 use native.Mathlib.Omega.{arith}
-use mathlib.Core.Bool.{Bool, true}
+use mathlib.Core.Bool.{true}
 use mathlib.Core.List.{List, [], _∷_, _++_}
 use native.Mathlib.Decide.{ℕ-discrete}
 use lib.ListN.{length, set, getD, length-append, replicate, List·getD-append}
@@ -18,7 +17,6 @@ use Rattle.rules.specs.declared.Monitor.{Monitor}
 use Rattle.rules.specs.Rules.{Call, answer}
 use Rattle.rules.specs.Record.{fresh, viewOf, intact, stepped}
 use Rattle.rules.specs.Run.{runs, ends, TestedOnce}
-use Rattle.rules.proofs.Refine.{Sized}
 use Rattle.rules.proofs.Agree.{fresh-agree, intact-true}
 use Rattle.rules.proofs.IntactKept.{tested-once}
 use Rattle.batch.specs.Requests.{callAt, callsOf}

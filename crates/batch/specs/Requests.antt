@@ -1,7 +1,6 @@
 -- Request bytes, five for each request, as a list of calls.
 use Prim.Native.Nat.{ℕ, zero, suc, _+_, _*_}
 use mathlib.Core.List.{List, [], _∷_, _++_}
-use lib.ListN.{getD}
 use Rattle.layout.specs.Layout.{byteAt}
 use Rattle.rules.specs.Rules.{Call}
 use Rattle.calls.specs.Work.{callBy}

@@ -1,16 +1,14 @@
 -- On a record that passes test 20, what the work of each call does is what the rules say. Assumes nothing.
-use mathlib.Core.Path.{_≡_, refl, sym, ap, ap₂, _∙_}
-use Prim.Native.Nat.{ℕ, _+_, _*_, _≤_, _<_}
+use mathlib.Core.Path.{_≡_, refl, sym, ap, _∙_}
+use Prim.Native.Nat.{ℕ, _*_, _≤_, _<_}
 use native.Mathlib.Omega.{arith}
-use mathlib.Core.Bool.{Bool, true, false, cond, not, _&&_, _||_}
+use mathlib.Core.Bool.{Bool, true, false, cond, not, _&&_}
 use mathlib.Core.List.{List}
 use lib.Dec.{eqb, ltb, leb}
 use lib.ListN.{getD, replicate, length-replicate, getD-replicate}
 use lib.ListN as ListN
-use borrow.Author.Tests.{leb-false, leb-true, ltb-true, ltb-false, lt-ltb, le-ltb, eqb-true, eq-eqb, ne-eqb, not-false}
-use Rattle.base.specs.Below.{allBelow, anyBelow}
-use Rattle.base.specs.Bits.{bit}
-use Rattle.base.specs.Fill.{fill}
+use borrow.Author.Tests.{leb-false, ltb-true, ltb-false, lt-ltb, le-ltb, eqb-true, eq-eqb, ne-eqb}
+use Rattle.base.specs.Below.{anyBelow}
 use Rattle.base.proofs.Logic.{split}
 use Rattle.base.proofs.Below.{any-same}
 use Rattle.base.proofs.Filled.{fill-at, fill-past}
@@ -22,8 +20,8 @@ use Rattle.choice.specs.Search.{choiceIn}
 use Rattle.choice.proofs.Choice.{choice-is, choice-none}
 use Rattle.choice.proofs.Search.{search-choice}
 use Rattle.rules.specs.declared.Monitor.{Monitor}
-use Rattle.rules.specs.Rules.{Call, set, start, stop, gate, View, blankAt, blank, lacking, holds, conditions, refusal, granted, answer, pickFor}
-use Rattle.rules.specs.Record.{viewOf, levelAt, chosenAt, hasLevel, hasChosen, fillFrom, changed, stepped, intact}
+use Rattle.rules.specs.Rules.{set, start, stop, gate, View, blankAt, blank, lacking, holds, conditions, refusal, granted, answer, pickFor}
+use Rattle.rules.specs.Record.{viewOf, levelAt, chosenAt, fillFrom, changed, stepped, intact}
 use Rattle.calls.specs.Work.{setNumber, setLevels, heldIn, gateAnswer, blankIn, pickIn, rowIn, lackingIn, startRow, startNumber, getRow, stopNumber, stopRunning, stopChosen}
 use Rattle.rules.proofs.Accepted.{start-ok}
 use Rattle.calls.proofs.Rows.{row-same}

@@ -1,21 +1,19 @@
 -- A record that passes test 20 has what the work of a call leans on. Assumes nothing.
-use mathlib.Core.Path.{_≡_, refl, sym, ap, _∙_}
+use mathlib.Core.Path.{_≡_}
 use mathlib.Core.Logic.{⊎-elim}
-use Prim.Native.Nat.{ℕ, _+_, _*_, _≤_, _<_}
+use Prim.Native.Nat.{ℕ, _<_}
 use native.Mathlib.Omega.{arith}
-use mathlib.Core.Bool.{Bool, true, false, cond, _&&_, _||_}
+use mathlib.Core.Bool.{true}
 use lib.Dec.{eqb, ltb}
 use lib.ListN.{getD}
 use borrow.Author.Tests.{lt-ltb, eq-eqb}
 use Rattle.base.specs.Below.{allBelow}
 use Rattle.base.proofs.Logic.{and-both, or-left, or-right}
 use Rattle.base.proofs.Below.{all-yes}
-use Rattle.plant.specs.declared.Plant.{Plant}
 use Rattle.plant.specs.Plant.{requirementOf, levelsOf, levelOf, groupOf, latticeOf}
 use Rattle.plant.specs.Checks.{entryBelow, Sound}
 use Rattle.plant.specs.Valid.{Valid}
 use Rattle.plant.proofs.Valid.{valid}
-use Rattle.choice.specs.Choice.{unset}
 use Rattle.rules.specs.declared.Monitor.{Monitor}
 use Rattle.rules.specs.Intact.{IntactView}
 use Rattle.rules.specs.Record.{viewOf, levelAt, hasLevel, intact}

@@ -1,13 +1,13 @@
 -- One request on lent arrays is the call that it stands for, on a record that passes test 20. Assumes nothing.
-use mathlib.Core.Path.{_≡_, refl, sym, ap, ap₂, _∙_}
+use mathlib.Core.Path.{_≡_, _∙_}
 use Prim.Native.Nat.{ℕ}
-use mathlib.Core.Bool.{Bool, true, false, cond}
+use mathlib.Core.Bool.{true}
 use mathlib.Core.List.{List}
 use lib.Dec.{eqb}
 use borrow.Author.Tests.{eqb-true}
 use Rattle.base.proofs.Logic.{split}
 use Rattle.rules.specs.declared.Monitor.{Monitor}
-use Rattle.rules.specs.Rules.{Call, unknown, conditions, refusal, granted, answer}
+use Rattle.rules.specs.Rules.{conditions, refusal, granted, answer}
 use Rattle.rules.specs.Record.{viewOf, intact, stepped}
 use Rattle.calls.specs.Work.{callBy, Lent, Turned}
 use Rattle.calls.proofs.Ready.{lattices-there, links-there, groups-there, levels-there, tasks-known, wishes-known}

@@ -1,8 +1,8 @@
 -- The worked cases of the paper, P1 to P10, and more by its rules, each with its answer, as one list. The session's two go through the calls,
 -- through the batch and through what the program prints.
-use Prim.Native.Nat.{ℕ, zero, suc, _+_, _-_}
+use Prim.Native.Nat.{ℕ, _+_, _-_}
 use Prim.Native.String.{String}
-use mathlib.Core.Bool.{Bool, true, false, cond, _&&_}
+use mathlib.Core.Bool.{Bool, true, false, _&&_}
 use mathlib.Core.List.{List, [], _∷_, _++_}
 use lib.Dec.{eqb}
 use lib.ListN.{length, replicate}

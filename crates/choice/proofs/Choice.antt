@@ -1,15 +1,15 @@
 -- The choice is the nearest tank with the lowest number, there is one exactly where some tank of the group is at or under the wish. Assumes nothing.
-use mathlib.Core.Path.{_≡_, refl, sym, ap, ap₂, _∙_}
-use mathlib.Core.Logic.{_↔_, _≢_}
-use Prim.Native.Nat.{ℕ, zero, suc, _+_, _≤_, _<_}
+use mathlib.Core.Path.{_≡_, sym, _∙_}
+use mathlib.Core.Logic.{_↔_}
+use Prim.Native.Nat.{ℕ, _<_}
 use native.Mathlib.Omega.{arith}
-use native.Mathlib.Decide.{decLt, ℕ-discrete}
+use native.Mathlib.Decide.{decLt}
 use mathlib.Core.Bool.{Bool, true, false, not, _&&_, and-false}
 use lib.Dec.{eqb}
-use borrow.Author.Tests.{eqb-true, eqb-false, eq-eqb, ne-eqb, not-true, not-false}
-use Rattle.base.specs.Below.{anyBelow, firstBelow}
+use borrow.Author.Tests.{eqb-true, eq-eqb, not-true}
+use Rattle.base.specs.Below.{anyBelow}
 use Rattle.plant.specs.declared.Plant.{Plant}
-use Rattle.plant.specs.Plant.{under, requirementOf, groupOf, levelOf, levelsOf}
+use Rattle.plant.specs.Plant.{groupOf}
 use Rattle.plant.specs.Valid.{Valid}
 use Rattle.choice.specs.Choice.{unset, fits, tankLe, tankEq, serves, above, nearest, served, choice, Nearest, Choice}
 use Rattle.base.proofs.Logic.{split, true-false, and-true, and-intro}

@@ -1,7 +1,7 @@
 // The choice of a tank from a group: the nearest one at or under the level asked for, and of several the one with the lowest number.
 ghost use mathlib.Core.Path.{_≡_};
 ghost use mathlib.Core.Bool.{true};
-ghost use Prim.Native.Nat.{ℕ, _+_, _*_, _<_, _≤_};
+ghost use Prim.Native.Nat.{_+_, _*_, _<_, _≤_};
 ghost use lib.ListN.{getD};
 ghost use Rattle.base.specs.Below.{allBelow, anyBelow};
 ghost use Rattle.plant.specs.Checks.{entryBelow};

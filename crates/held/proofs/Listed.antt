@@ -2,25 +2,24 @@
 use mathlib.Core.Path.{_≡_, refl, sym, ap, ap₂, subst, _∙_}
 use mathlib.Core.Logic.{_⊎_, inl, inr, ⊎-elim, _↔_}
 use Prim.Native.Nat.{ℕ, zero, suc, _+_, _*_, _/_, _≤_, _<_}
-use mathlib.Core.Bool.{Bool, true, false, cond}
+use mathlib.Core.Bool.{Bool, true, cond}
 use mathlib.Core.List.{List, [], _∷_, _++_, List·Memᴰ·head, List·Memᴰ·not-nil, List·Memᴰ·eq-of-singleton}
 use native.Mathlib.Omega.{arith}
 use lib.ListN.{length, getD}
 use Rattle.base.specs.Collect.{collect}
 use Rattle.base.specs.Rising.{In, Rising}
-use Rattle.base.proofs.Logic.{split, true-false}
+use Rattle.base.proofs.Logic.{split}
 use Rattle.base.proofs.Collected.{collect-same}
 use Rattle.base.proofs.Rising.{in-part, part-in, rising-collect, rising-unique}
 use Rattle.plant.specs.declared.Plant.{Plant}
 use Rattle.rules.specs.declared.Monitor.{Monitor}
 use Rattle.rules.specs.Rules.{View, holds}
 use Rattle.rules.specs.Record.{viewOf, intact}
-use Rattle.calls.specs.Work.{heldIn}
 use Rattle.calls.proofs.Ready.{plant-valid, groups-there, tasks-known}
 use Rattle.calls.proofs.Meet.{held-same}
 use Rattle.held.proofs.Bound.{list-short}
 use Rattle.held.specs.Held.{HeldRight, Before, Lists, rightAt, rightsOn, rightsOf, rightsHeld, rightBytes, listing}
-use Rattle.held.specs.Work.{Known, rightIn, tankIn, skidIn, skidsIn, listIn}
+use Rattle.held.specs.Work.{Known, rightIn, skidsIn, listIn}
 
 abbrev entry : ℕ → ℕ → ℕ → HeldRight
 entry s o r = record { skid = s; tank = o; right = r }

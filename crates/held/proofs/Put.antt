@@ -1,12 +1,11 @@
 -- The three stores of one right, and the count that is stored in front of the rights. Assumes nothing.
 use mathlib.Core.Path.{_≡_, refl, sym, ap, ap₂, subst, _∙_}
-use Prim.Native.Nat.{ℕ, suc, _+_, _≤_, _<_}
+use Prim.Native.Nat.{ℕ, suc, _+_, _≤_}
 use mathlib.Core.Bool.{Bool, true, false, cond}
 use mathlib.Core.List.{List, [], _∷_, _++_, append-assoc}
-use native.Mathlib.Numerals.{add-one}
 use native.Mathlib.Omega.{arith}
 use lib.ListN.{length, set, take, drop}
-use lib.Seq.{sets, sets-eq}
+use lib.Seq.{sets-eq}
 use Rattle.base.specs.Overlay.{overlay, Wrote}
 use Rattle.base.proofs.Collected.{wrote-nothing}
 

@@ -1,5 +1,5 @@
 -- What the writer of the list puts into the buffer, on the arrays that are lent to it. proofs/Listed has that on a record that passes test 20 this is the listing of the rights held.
-use Prim.Native.Nat.{ℕ, _+_, _/_, _≤_, _<_}
+use Prim.Native.Nat.{ℕ, _/_, _≤_}
 use mathlib.Core.Path.{_≡_}
 use mathlib.Core.Bool.{true, cond}
 use mathlib.Core.List.{List, [], _∷_}

@@ -1,7 +1,7 @@
 // The writer of the list of rights held: how many there are, and then each as skid, tank, right, rising in that order.
 ghost use mathlib.Core.Path.{_≡_};
 ghost use mathlib.Core.List.{[], _∷_};
-ghost use Prim.Native.Nat.{ℕ, _+_, _/_, _<_, _≤_};
+ghost use Prim.Native.Nat.{_+_, _/_, _<_, _≤_};
 ghost use lib.ListN.{length};
 ghost use Rattle.base.specs.Overlay.{overlay, Wrote};
 ghost use Rattle.held.specs.Work.{Known, rightIn, tankIn, skidIn, skidsIn, listIn};

@@ -4,13 +4,12 @@ use Prim.Native.Nat.{ℕ, suc, _≤_, _<_, _+_}
 use native.Mathlib.Numerals.{add-one}
 use native.Mathlib.Omega.{arith}
 use native.Mathlib.Decide.{decLt}
-use mathlib.Core.Bool.{Bool, true, false, cond, _&&_}
+use mathlib.Core.Bool.{Bool, true, false, cond}
 use mathlib.Core.List.{List}
 use lib.Bits.{bitAnd, and-zero-r}
-use lib.Dec.{eqb}
-use lib.ListN.{length, getD, replicate, length-replicate, getD-replicate}
+use lib.ListN.{length, getD, length-replicate, getD-replicate}
 use lib.Seq.{ext-getD}
-use borrow.Author.Tests.{eqb-true, ne-eqb}
+use borrow.Author.Tests.{eqb-true}
 use Rattle.base.specs.Below.{anyBelow, firstBelow}
 use Rattle.base.specs.Bits.{bit}
 use Rattle.base.specs.Fill.{fill}
@@ -19,7 +18,7 @@ use Rattle.base.proofs.Below.{any-none, first-none}
 use Rattle.base.proofs.Filled.{fill-at, fill-past, fill-length, fill-same, fill-again}
 use Rattle.base.proofs.Shared.{shared-at, zero-bits}
 use Rattle.lattice.specs.Levels.{joinOf}
-use Rattle.lattice.specs.Sets.{underIn, Sound, isSet, markedAt, marked}
+use Rattle.lattice.specs.Sets.{underIn, Sound, isSet, marked}
 use Rattle.lattice.specs.Table.{blank, joinRow}
 use Rattle.lattice.proofs.Sets.{join-found}
 

@@ -1,24 +1,15 @@
 -- Opening: the two ways out, and demand 3 from the monitor that an accepted file gives. Assumes nothing.
-use mathlib.Core.Path.{_≡_, refl, sym, ap, _∙_}
+use mathlib.Core.Path.{_≡_, ap, _∙_}
 use Prim.Native.Nat.{ℕ}
-use mathlib.Core.Bool.{Bool, true, false, cond}
 use mathlib.Core.List.{List}
-use lib.Dec.{eqb}
 use lib.ListN.{replicate}
-use borrow.Author.Tests.{eq-eqb, ne-eqb}
-use Rattle.plant.specs.declared.Plant.{Plant}
-use Rattle.plant.specs.Plant.{noPlant}
+use borrow.Author.Tests.{ne-eqb}
 use Rattle.reader.specs.declared.Reading.{Reading}
 use Rattle.reader.specs.Reading.{readingOf}
-use Rattle.reader.specs.Admitted.{Admitted}
 use Rattle.reader.proofs.Opening.{opens}
-use Rattle.rules.specs.declared.Monitor.{Monitor}
-use Rattle.rules.specs.Rules.{Call}
 use Rattle.rules.specs.Record.{fresh}
 use Rattle.rules.proofs.Demand.{demand3}
-use Rattle.intact.specs.Zeros.{zeroMonitor}
 use Rattle.intact.proofs.Zeros.{zeros-refused}
-use Rattle.monitor.specs.declared.Answered.{Answered}
 use Rattle.monitor.specs.Calls.{openedOf}
 use Rattle.monitor.specs.Opened.{Opened}
 

@@ -1,12 +1,11 @@
 -- The two ways out of a call: a record that fails test 20, and one that passes it. Assumes nothing.
-use mathlib.Core.Path.{_≡_, refl, sym, ap₂, _∙_}
+use mathlib.Core.Path.{_≡_, refl, sym, _∙_}
 use Prim.Native.Nat.{ℕ}
-use mathlib.Core.Bool.{Bool, true, false, not, cond}
+use mathlib.Core.Bool.{Bool, true, false, not}
 use borrow.Author.Tests.{not-true, not-false}
 use Rattle.rules.specs.declared.Monitor.{Monitor}
 use Rattle.rules.specs.Rules.{Call, answer}
 use Rattle.rules.specs.Record.{viewOf, intact, stepped, reply, after}
-use Rattle.monitor.specs.declared.Answered.{Answered}
 use Rattle.monitor.specs.Calls.{stepOf}
 
 -- what holds behind `if !is_intact(m) { .. }`

@@ -5,7 +5,6 @@ ghost use Rattle.rules.specs.Rules.{set, start, stop, gate};
 ghost use mathlib.Core.Bool.{true};
 ghost use Rattle.rules.specs.Record.{fresh, intact};
 ghost use Rattle.calls.specs.Work.{callBy};
-ghost use Rattle.intact.specs.Zeros.{zeroMonitor};
 ghost use Rattle.monitor.specs.Calls.{stepOf, openedOf};
 use calls::turn;
 use intact::is_intact;

@@ -1,9 +1,9 @@
 -- What the panel can rely on, for every plant, requests and buffer. Assumes nothing.
 use mathlib.Core.Path.{_≡_, refl, sym, ap, ap₂, subst, _∙_}
-use mathlib.Core.Logic.{_↔_, _≢_}
-use Prim.Native.Nat.{ℕ, suc, _+_, _-_, _*_, _/_, _%_, _≤_, _<_}
-use mathlib.Core.Bool.{Bool, true, false, cond, not}
-use mathlib.Core.List.{List, [], _∷_, _++_}
+use mathlib.Core.Logic.{_↔_}
+use Prim.Native.Nat.{ℕ, suc, _+_, _-_, _*_, _≤_, _<_}
+use mathlib.Core.Bool.{Bool, true, cond}
+use mathlib.Core.List.{List, [], _++_}
 use native.Mathlib.Omega.{arith}
 use lib.ListN.{length, getD, length-append, List·getD-append}
 use lib.Seq.{getD-append-add}
@@ -16,18 +16,17 @@ use Rattle.reader.specs.Admitted.{Admitted}
 use Rattle.reader.proofs.Opening.{opens}
 use Rattle.rules.specs.declared.Monitor.{Monitor}
 use Rattle.rules.specs.Rules.{Call, gate, unknown, answer}
-use Rattle.rules.specs.Record.{fresh, reply, replies, final, viewOf, intact}
+use Rattle.rules.specs.Record.{fresh, reply, final, viewOf, intact}
 use Rattle.rules.specs.History.{dues, history, past}
 use Rattle.rules.specs.Rights.{Gives}
 use Rattle.rules.specs.Demand.{Demand3}
 use Rattle.rules.proofs.Demand.{demand3}
-use Rattle.rules.proofs.Accepted.{GateOk, gate-zero}
+use Rattle.rules.proofs.Accepted.{gate-zero}
 use Rattle.rules.proofs.Agree.{fresh-agree, list-agree}
-use Rattle.rules.specs.Run.{runs}
 use Rattle.batch.proofs.Served.{runs-length, calls-length, calls-at}
 use Rattle.held.specs.Held.{HeldRight, Lists, rightsHeld, rightBytes, listing}
 use Rattle.held.proofs.Listed.{HeldIn, lists-same, rights-listed, bytes-length, bytes-at, held-at-most}
-use Rattle.panel.specs.Batch.{requestCount, refusalBy, batchRefusal, outcome, batchCalls, batchOut}
+use Rattle.panel.specs.Batch.{requestCount, refusalBy, batchRefusal, outcome, batchOut}
 use Rattle.panel.specs.Served.{Admits, none, P, calls, held, Served, Batch}
 use Rattle.panel.proofs.Outcome.{same-answers, same-rights}
 use Rattle.panel.proofs.Refused.{refusal-is, unwritten, by-opening, by-requests, by-room, by-none, accepts, plant-passes}

@@ -1,8 +1,8 @@
 -- A run from the fresh monitor, and the list of the rights held at its end, are the outcome that the history gives. Assumes nothing.
-use mathlib.Core.Path.{_≡_, refl, sym, ap, ap₂, subst, _∙_}
-use Prim.Native.Nat.{ℕ, _+_, _-_, _*_, _≤_}
-use mathlib.Core.Bool.{Bool, true}
-use mathlib.Core.List.{List, [], _∷_, _++_}
+use mathlib.Core.Path.{_≡_, sym, ap, ap₂, _∙_}
+use Prim.Native.Nat.{ℕ, _+_, _-_, _≤_}
+use mathlib.Core.Bool.{true}
+use mathlib.Core.List.{List, [], _++_}
 use native.Mathlib.Omega.{arith}
 use lib.ListN.{length, take, drop, length-take, length-drop}
 use Rattle.base.specs.Overlay.{overlay}
@@ -13,7 +13,7 @@ use Rattle.plant.specs.Checks.{plantRefusal, Sound}
 use Rattle.plant.proofs.Sound.{sound-law}
 use Rattle.rules.specs.declared.Monitor.{Monitor}
 use Rattle.rules.specs.Rules.{Call, View}
-use Rattle.rules.specs.Record.{fresh, viewOf, intact, replies, final}
+use Rattle.rules.specs.Record.{fresh, viewOf, intact, final}
 use Rattle.rules.specs.Run.{runs, ends}
 use Rattle.rules.specs.History.{past, dues, history}
 use Rattle.rules.proofs.Agree.{fresh-agree, list-agree, list-replies}

@@ -2,10 +2,10 @@
 use mathlib.Core.Path.{_≡_, refl, sym, ap, subst, _∙_}
 use mathlib.Core.Logic.{_≢_}
 use Prim.Native.Nat.{ℕ, _+_, _/_, _%_, _≤_, _<_}
-use mathlib.Core.Bool.{Bool, true, false, cond, not}
-use mathlib.Core.List.{List, [], _∷_}
+use mathlib.Core.Bool.{Bool, true, cond}
+use mathlib.Core.List.{List}
 use native.Mathlib.Omega.{arith}
-use lib.Dec.{eqb, ltb}
+use lib.Dec.{eqb}
 use lib.ListN.{length}
 use borrow.Author.Tests.{eqb-true, eqb-false, ne-eqb, lt-ltb, le-ltb, ltb-false, not-false}
 use Rattle.base.specs.Chain.{first}
@@ -17,7 +17,7 @@ use Rattle.reader.specs.Reading.{openingChecks, openingRefusal, readingOf}
 use Rattle.plant.specs.Checks.{plantRefusal}
 use Rattle.plant.proofs.Sound.{sound-law}
 use Rattle.reader.proofs.Opening.{opens}
-use Rattle.panel.specs.Batch.{requestCount, sizeChecks, requestChecks, refusalBy, batchRefusal, outcome, batchCalls, batchOut}
+use Rattle.panel.specs.Batch.{sizeChecks, requestChecks, refusalBy, batchRefusal, outcome, batchCalls, batchOut}
 
 module _ (plant requests : List ℕ) where
   -- opening decides first

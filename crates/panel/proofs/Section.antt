@@ -1,15 +1,14 @@
 -- The two numbers of a section give the very part that the section call returns. Assumes nothing.
-use mathlib.Core.Path.{_≡_, refl, sym, ap, _∙_}
+use mathlib.Core.Path.{_≡_}
 use mathlib.Core.Logic.{_≢_}
-use Prim.Native.Nat.{ℕ, _+_, _≤_, _<_}
-use mathlib.Core.Bool.{Bool, true, false, cond, _&&_}
+use Prim.Native.Nat.{ℕ, _≤_, _<_}
+use mathlib.Core.Bool.{_&&_}
 use mathlib.Core.List.{List}
-use native.Mathlib.Omega.{arith}
 use lib.Dec.{eqb, ltb}
 use lib.ListN.{take, drop}
-use borrow.Author.Tests.{eq-eqb, ne-eqb, lt-ltb, le-ltb}
+use borrow.Author.Tests.{ne-eqb, lt-ltb, le-ltb}
 use Rattle.base.proofs.Logic.{split}
-use Rattle.layout.specs.Layout.{sections, offset, size, part}
+use Rattle.layout.specs.Layout.{sections, offset, size}
 use Rattle.layout.specs.Header.{placingRefusal, sectionOf}
 use Rattle.panel.specs.declared.Place.{Place}
 use Rattle.panel.specs.Section.{sectionPlace}

@@ -4,9 +4,8 @@ use mathlib.Core.Logic.{_↔_}
 use Prim.Native.Nat.{ℕ, _+_, _*_, _≤_, _<_}
 use native.Mathlib.Nat.{add-zero, mul-one}
 use native.Mathlib.Omega.{arith}
-use mathlib.Core.Bool.{Bool, true, false, not, cond, _&&_, _||_}
+use mathlib.Core.Bool.{true, _&&_}
 use mathlib.Core.List.{List}
-use lib.Dec.{eqb}
 use lib.ListN.{getD, replicate}
 use borrow.Author.Tests.{eqb-true, eq-eqb, ne-eqb}
 use Rattle.base.specs.Fill.{fill}
@@ -19,7 +18,6 @@ use Rattle.layout.specs.Header.{placing, placingRules, CountsInRange}
 use Rattle.layout.proofs.Header.{placing-means, counts-back}
 use Rattle.layout.proofs.Places.{place-one, cell-one, cell-many}
 use Rattle.plant.specs.declared.Plant.{Plant}
-use Rattle.plant.specs.Plant.{noPlant}
 use Rattle.plant.specs.Checks.{recordChecks, recordRules, Sound}
 use Rattle.plant.proofs.Sequence.{count-in}
 use Rattle.plant.proofs.Sound.{record-means}

@@ -1,17 +1,16 @@
 -- How opening's checks follow one another: what each early return of the reader says of the whole chain. Assumes nothing.
-use mathlib.Core.Path.{_≡_, refl, sym, ap, _∙_}
+use mathlib.Core.Path.{_≡_, refl, sym, _∙_}
 use Prim.Native.Nat.{ℕ}
-use mathlib.Core.Bool.{Bool, true, false, not, cond}
+use mathlib.Core.Bool.{Bool, cond}
 use mathlib.Core.List.{List}
 use lib.Dec.{eqb}
-use borrow.Author.Tests.{eq-eqb, ne-eqb}
+use borrow.Author.Tests.{ne-eqb}
 use Rattle.base.specs.Below.{allBelow}
 use Rattle.base.specs.Chain.{first}
 use Rattle.base.proofs.Chain.{first-append}
 use Rattle.layout.specs.Header.{placing, placingRefusal, countsOk}
 use Rattle.layout.proofs.Header.{counts-back, counts-in-range}
 use Rattle.plant.specs.declared.Plant.{Plant}
-use Rattle.plant.specs.Plant.{noPlant}
 use Rattle.plant.specs.Checks.{countsIn, recordChecks, plantRefusal}
 use Rattle.reader.specs.declared.Reading.{Reading}
 use Rattle.reader.specs.Reading.{plantOf, latticeZeros, otherZeros, refusedWith, openingRefusal, readingOf}

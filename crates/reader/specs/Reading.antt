@@ -1,12 +1,11 @@
 -- What a plant file says: the plant that its records make, the number that refuses it, and what the reader returns for any bytes.
-use mathlib.Core.Path.{_≡_}
-use Prim.Native.Nat.{ℕ, _+_, _*_, _<_}
-use mathlib.Core.Bool.{Bool, true, cond, _&&_}
-use mathlib.Core.List.{List, [], _∷_, _++_}
+use Prim.Native.Nat.{ℕ, _+_}
+use mathlib.Core.Bool.{Bool, cond, _&&_}
+use mathlib.Core.List.{List, _++_}
 use lib.Dec.{eqb}
-use lib.ListN.{getD, replicate}
+use lib.ListN.{replicate}
 use Rattle.base.specs.Chain.{Test, first}
-use Rattle.layout.specs.Layout.{byteAt, wordAt, width, count, part, bytesOf, wordsOf, zerosAt}
+use Rattle.layout.specs.Layout.{width, count, part, bytesOf, wordsOf, zerosAt}
 use Rattle.layout.specs.Header.{placing}
 use Rattle.plant.specs.declared.Plant.{Plant}
 use Rattle.plant.specs.Plant.{noPlant}

@@ -1,12 +1,11 @@
 // The reader of plant files: any bytes give opening's number, and the plant where it is 0.
 ghost use mathlib.Core.Path.{_≡_};
-ghost use mathlib.Core.Bool.{Bool};
-ghost use Prim.Native.Nat.{ℕ, _+_, _*_, _<_, _≤_};
-ghost use lib.ListN.{length, replicate};
-ghost use Rattle.layout.specs.Layout.{width, limit, count, part, Cells, bytesOf, wordsOf};
+ghost use Prim.Native.Nat.{_+_, _*_, _<_, _≤_};
+ghost use lib.ListN.{length};
+ghost use Rattle.layout.specs.Layout.{width, limit, count, part, bytesOf, wordsOf};
 ghost use Rattle.layout.specs.Header.{placingRefusal};
 ghost use Rattle.plant.specs.Plant.{noPlant};
-ghost use Rattle.reader.specs.Reading.{bytes, words, plantOf, zeros, latticeZeros, otherZeros, refusedWith, readingOf};
+ghost use Rattle.reader.specs.Reading.{bytes, words, plantOf, zeros, otherZeros, refusedWith, readingOf};
 use layout::bytes_into;
 use layout::count_of;
 use layout::part_of;

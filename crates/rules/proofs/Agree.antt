@@ -1,10 +1,9 @@
 -- The record agrees with the history after every call, so every answer is the history's. Assumes nothing.
 use mathlib.Core.Path.{_≡_, refl, sym, ap, ap₂, _∙_, subst}
-use mathlib.Core.Logic.{_≢_}
-use Prim.Native.Nat.{ℕ, _≤_, _<_}
+use Prim.Native.Nat.{ℕ, _<_}
 use native.Mathlib.Omega.{arith}
 use native.Mathlib.Decide.{ℕ-discrete}
-use mathlib.Core.Bool.{Bool, true, false, cond, _&&_}
+use mathlib.Core.Bool.{Bool, true, false, cond}
 use mathlib.Core.List.{List, [], _∷_}
 use lib.ListN.{getD, length-replicate, getD-replicate}
 use lib.ListN as ListN
@@ -16,7 +15,7 @@ use Rattle.plant.specs.Valid.{Valid}
 use Rattle.plant.proofs.Valid.{valid}
 use Rattle.plant.proofs.Sound.{sound-law}
 use Rattle.plant.specs.Checks.{Sound}
-use Rattle.rules.specs.Rules.{Call, skidOf, View, refusal, answer, effect}
+use Rattle.rules.specs.Rules.{Call, skidOf, refusal, answer, effect}
 use Rattle.rules.specs.declared.Monitor.{Monitor}
 use Rattle.rules.specs.Record.{fresh, levelAt, chosenAt, hasLevel, hasChosen, viewOf, changed, stepped, intact, after, reply, replies, final}
 use Rattle.rules.specs.Intact.{intactView}

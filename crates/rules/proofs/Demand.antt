@@ -1,10 +1,9 @@
 -- Demand 3, over every list of calls from the fresh monitor, as one claim. Assumes nothing.
-use mathlib.Core.Path.{_≡_, refl, sym, ap, ap₂, _∙_, subst}
+use mathlib.Core.Path.{_≡_, refl, sym, ap, _∙_}
 use mathlib.Core.Logic.{_↔_, _≢_}
-use Prim.Native.Nat.{ℕ, zero, suc, _+_, _≤_, _<_}
-use native.Mathlib.Omega.{arith}
-use mathlib.Core.Bool.{Bool, true, false, cond, not, _&&_}
-use mathlib.Core.List.{List, [], _∷_, _++_}
+use Prim.Native.Nat.{ℕ, _<_}
+use mathlib.Core.Bool.{true, false}
+use mathlib.Core.List.{List, []}
 use Rattle.plant.specs.declared.Plant.{Plant}
 use Rattle.choice.specs.Choice.{unset}
 use Rattle.plant.specs.Plant.{namesRight, groupOf}
@@ -12,16 +11,15 @@ use Rattle.plant.specs.Valid.{Valid}
 use Rattle.plant.proofs.Valid.{valid}
 use Rattle.plant.specs.Checks.{Sound}
 use Rattle.rules.specs.Demand.{Demand3}
-use Rattle.rules.specs.Rules.{Call, gate, View, answer, holds}
-use Rattle.rules.specs.declared.Monitor.{Monitor}
-use Rattle.rules.specs.Record.{fresh, viewOf, reply, replies, final, intact}
-use Rattle.rules.specs.History.{Started, idle, since, startIn, taskOf, past, dues, history, own, mine}
+use Rattle.rules.specs.Rules.{Call, gate, holds}
+use Rattle.rules.specs.Record.{fresh, viewOf, reply, replies, final}
+use Rattle.rules.specs.History.{Started, idle, since, startIn, taskOf, past, dues, history, own}
 use Rattle.rules.specs.Rights.{Runs, Gives}
-use Rattle.rules.proofs.Accepted.{GateOk, gate-zero}
+use Rattle.rules.proofs.Accepted.{gate-zero}
 use Rattle.rules.proofs.Agree.{Agree, fresh-agree, list-agree, list-replies, intact-true}
 use Rattle.rules.proofs.Kept.{AllAccepted}
 use Rattle.rules.proofs.Rights.{started-runs, runs-started, start-was}
-use Rattle.rules.proofs.Gives.{gives-holds, holds-gives, OneTank, one-tank}
+use Rattle.rules.proofs.Gives.{gives-holds, holds-gives, one-tank}
 use Rattle.rules.proofs.Strike.{strike-past, strike-dues}
 
 module _ (P : Plant) (W : Sound P) (cs : List Call) where

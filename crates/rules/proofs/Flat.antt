@@ -1,14 +1,14 @@
 -- The flat lists: where entries stand, and what `fillFrom` leaves. Assumes nothing.
-use mathlib.Core.Path.{_≡_, refl, sym, ap, _∙_}
+use mathlib.Core.Path.{_≡_, refl, _∙_}
 use mathlib.Core.Logic.{_≢_}
-use Prim.Native.Nat.{ℕ, zero, suc, _+_, _*_, _≤_, _<_}
+use Prim.Native.Nat.{ℕ, zero, suc, _+_, _≤_, _<_}
 use native.Mathlib.Omega.{arith}
 use native.Mathlib.Decide.{ℕ-discrete}
-use mathlib.Core.List.{List, [], _∷_}
+use mathlib.Core.List.{List}
 use lib.ListN.{length, getD, length-set}
 use lib.ListN as ListN
 use lib.Seq.{getD-set-same, getD-set-other}
-use Rattle.rules.specs.Record.{levelAt, chosenAt, fillFrom}
+use Rattle.rules.specs.Record.{levelAt, fillFrom}
 
 pub levelAt-inj : (s t d s′ t′ d′ : ℕ) → t < 16 → t′ < 16 → d < 8 → d′ < 8 → levelAt s t d ≡ levelAt s′ t′ d′ → (s ≡ s′) × (t ≡ t′) × (d ≡ d′)
 levelAt-inj s t d s′ t′ d′ a b c e h = omega arith

@@ -1,29 +1,26 @@
 -- A skid holds a right exactly where the history gives it, and holds one tank for each right that its task names. Assumes nothing.
-use mathlib.Core.Path.{_≡_, refl, sym, ap, ap₂, _∙_, subst}
+use mathlib.Core.Path.{_≡_, refl, sym, _∙_}
 use mathlib.Core.Logic.{_↔_, _≢_}
-use Prim.Native.Nat.{ℕ, zero, suc, _+_, _*_, _/_, _%_, _^_, _≤_, _<_}
+use Prim.Native.Nat.{ℕ, _+_, _*_, _/_, _%_, _^_, _<_}
 use native.Mathlib.Omega.{arith}
 use native.Mathlib.Nat.{zero-div}
-use mathlib.Core.Bool.{Bool, true, false, cond, not, _&&_}
-use mathlib.Core.List.{List, [], _∷_, _++_}
+use mathlib.Core.Bool.{true, not, _&&_}
+use mathlib.Core.List.{List}
 use lib.ListN.{getD}
-use lib.Dec.{eqb, ltb}
-use borrow.Author.Tests.{eqb-true, eqb-false, eq-eqb, ne-eqb, ltb-true, lt-ltb, not-true, not-false}
+use lib.Dec.{eqb}
+use borrow.Author.Tests.{eqb-true, eqb-false, eq-eqb, ne-eqb, lt-ltb, not-true, not-false}
 use Rattle.plant.specs.declared.Plant.{Plant}
 use Rattle.choice.specs.Choice.{unset}
 use Rattle.plant.specs.Plant.{namesRight, needs, groupOf}
-use Rattle.base.specs.Bits.{bit}
 use Rattle.plant.specs.Valid.{Valid}
-use Rattle.plant.specs.Checks.{Fits}
-use Rattle.choice.specs.Choice.{Choice, Nearest, served, choice}
-use Rattle.rules.specs.Rules.{Call, set, start, stop, gate, skidOf, View, refusal, answer, granted, holds, pickFor, lacking}
-use Rattle.rules.specs.History.{levelIn, Started, idle, since, startIn, taskOf, tankOf, past, note, history}
-use Rattle.rules.specs.Rights.{Unstopped, Runs, Gives}
-use Rattle.base.proofs.Logic.{split, true-false, and-true, and-intro}
+use Rattle.choice.specs.Choice.{Choice, served, choice}
+use Rattle.rules.specs.Rules.{Call, View, holds, pickFor, lacking}
+use Rattle.rules.specs.History.{levelIn, Started, idle, since, startIn, past}
+use Rattle.rules.specs.Rights.{Runs, Gives}
+use Rattle.base.proofs.Logic.{split, and-true}
 use Rattle.base.proofs.Below.{any-no}
-use Rattle.rules.proofs.Accepted.{StartOk, start-ok}
-use Rattle.choice.proofs.Choice.{choice-iff, choice-is, choice-none, choice-unique}
-use Rattle.rules.proofs.Kept.{AllAccepted, history-sound}
+use Rattle.choice.proofs.Choice.{choice-iff, choice-is, choice-unique}
+use Rattle.rules.proofs.Kept.{AllAccepted}
 use Rattle.rules.proofs.Rights.{started-runs, runs-started, start-was, one-task}
 
 pub names-needs : (P : Plant) (t r g : ℕ) → namesRight P t r g ≡ true → needs P t g ≡ true

@@ -1,26 +1,24 @@
 -- Test 20 passes all along a history. Assumes nothing.
-use mathlib.Core.Path.{_≡_, refl, sym, ap, _∙_}
-use Prim.Native.Nat.{ℕ, zero, suc, _≤_, _<_}
-use native.Mathlib.Omega.{arith}
-use mathlib.Core.Bool.{Bool, true, false, cond, not, _&&_, _||_, or-true}
+use mathlib.Core.Path.{_≡_, refl}
+use Prim.Native.Nat.{ℕ, _<_}
+use mathlib.Core.Bool.{true, not, _&&_, _||_, or-true}
 use mathlib.Core.List.{List, [], _∷_}
 use lib.Dec.{eqb, ltb}
-use borrow.Author.Tests.{eqb-true, eqb-false, eq-eqb, ne-eqb, lt-ltb, not-false}
+use borrow.Author.Tests.{eq-eqb, lt-ltb, not-false}
 use Rattle.base.specs.Below.{allBelow}
 use Rattle.plant.specs.declared.Plant.{Plant}
 use Rattle.choice.specs.Choice.{unset}
-use Rattle.plant.specs.Plant.{levelsOf, groupOf, needs, mayRun}
+use Rattle.plant.specs.Plant.{levelsOf, groupOf, needs}
 use Rattle.plant.specs.Valid.{Valid}
-use Rattle.plant.specs.Checks.{Fits}
-use Rattle.choice.specs.Choice.{Choice, served, choice}
-use Rattle.rules.specs.Rules.{Call, set, start, stop, gate, unknown, skidOf, View, refusal, pickFor, lacking}
+use Rattle.choice.specs.Choice.{served, choice}
+use Rattle.rules.specs.Rules.{Call, set, start, stop, gate, unknown, pickFor, lacking}
 use Rattle.rules.specs.Intact.{levelOk, taskOk, tankOk, intactView}
 use Rattle.rules.specs.History.{levelIn, Started, idle, since, startIn, past}
 use Rattle.base.proofs.Logic.{split, and-intro, and-both, and-true}
 use Rattle.rules.proofs.Pairs.{same}
 use Rattle.base.proofs.Below.{any-no, all-yes}
 use Rattle.rules.proofs.Kept.{AllAccepted}
-use Rattle.rules.proofs.Accepted.{SetOk, set-ok, StartOk, start-ok}
+use Rattle.rules.proofs.Accepted.{set-ok, StartOk}
 use Rattle.rules.proofs.Rights.{started-runs, start-was}
 use Rattle.choice.proofs.Choice.{choice-is}
 

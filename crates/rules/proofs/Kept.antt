@@ -1,26 +1,13 @@
 -- A history holds only calls that were accepted over those before them. Assumes nothing.
-use mathlib.Core.Path.{_≡_, refl, sym, ap, ap₂, _∙_, subst}
-use mathlib.Core.Logic.{_↔_, _≢_}
-use Prim.Native.Nat.{ℕ, zero, suc, _+_, _*_, _/_, _%_, _^_, _≤_, _<_}
-use native.Mathlib.Omega.{arith}
-use native.Mathlib.Decide.{ℕ-discrete}
-use mathlib.Core.Bool.{Bool, true, false, cond, not, _&&_}
+use mathlib.Core.Path.{_≡_}
+use Prim.Native.Nat.{_+_}
 use mathlib.Core.List.{List, [], _∷_, _++_}
-use lib.ListN.{getD}
-use lib.Dec.{eqb, ltb}
-use borrow.Author.Tests.{eqb-true, eqb-false, eq-eqb, ne-eqb, ltb-true, lt-ltb, not-true, not-false}
+use lib.Dec.{eqb}
+use borrow.Author.Tests.{eqb-true}
 use Rattle.plant.specs.declared.Plant.{Plant}
-use Rattle.choice.specs.Choice.{unset}
-use Rattle.plant.specs.Plant.{namesRight, needs, groupOf}
-use Rattle.base.specs.Bits.{bit}
-use Rattle.plant.specs.Valid.{Valid}
-use Rattle.plant.specs.Checks.{Fits}
-use Rattle.choice.specs.Choice.{Choice, served, choice}
-use Rattle.rules.specs.Rules.{Call, set, start, stop, gate, skidOf, View, refusal, answer, granted, holds, pickFor, lacking}
-use Rattle.rules.specs.History.{levelIn, Started, idle, since, startIn, taskOf, tankOf, past, note, history}
-use Rattle.base.proofs.Logic.{split, true-false, and-true, and-intro}
-use Rattle.base.proofs.Below.{any-no}
-use Rattle.rules.proofs.Accepted.{StartOk, start-ok}
+use Rattle.rules.specs.Rules.{Call, refusal}
+use Rattle.rules.specs.History.{past, note, history}
+use Rattle.base.proofs.Logic.{split}
 
 module _ (P : Plant) where
   -- every call of the list was accepted over those before it

@@ -1,14 +1,11 @@
 -- The history's view of a skid: an accepted call has its `effect` on the skid that it names, and none on the others. Assumes nothing.
-use mathlib.Core.Path.{_≡_, refl, sym, ap, _∙_}
+use mathlib.Core.Path.{_≡_, refl}
 use mathlib.Core.Logic.{_≢_}
 use Prim.Native.Nat.{ℕ}
-use mathlib.Core.Bool.{Bool, true, false, cond, _&&_}
-use mathlib.Core.List.{List, [], _∷_}
-use lib.Dec.{eqb}
+use mathlib.Core.List.{List, _∷_}
 use borrow.Author.Tests.{eq-eqb, ne-eqb}
 use Rattle.plant.specs.declared.Plant.{Plant}
-use Rattle.choice.specs.Choice.{unset}
-use Rattle.rules.specs.Rules.{Call, set, start, stop, gate, unknown, skidOf, View, refusal, effect, pickFor}
+use Rattle.rules.specs.Rules.{Call, set, start, stop, gate, unknown, skidOf, effect}
 use Rattle.rules.specs.History.{levelIn, startIn, past}
 use Rattle.rules.proofs.Refine.{view-path}
 

@@ -1,25 +1,24 @@
 -- The flat lists keep the views: what an accepted call makes of the record is `effect` on the view of its skid, and nothing on the others. Assumes nothing.
-use mathlib.Core.Path.{_≡_, refl, sym, ap, _∙_}
+use mathlib.Core.Path.{_≡_, refl, sym}
 use mathlib.Core.Logic.{_≢_}
-use Prim.Native.Nat.{ℕ, zero, suc, _+_, _*_, _≤_, _<_}
+use Prim.Native.Nat.{ℕ, _*_, _≤_, _<_}
 use native.Mathlib.Omega.{arith}
-use mathlib.Core.Bool.{Bool, true, false, cond, not, _&&_, _||_}
-use mathlib.Core.List.{List, [], _∷_}
-use lib.ListN.{length, getD, length-set, length-replicate, getD-replicate}
+use mathlib.Core.Bool.{true, cond, _&&_}
+use lib.ListN.{length, getD, length-set}
 use lib.ListN as ListN
 use lib.Seq.{getD-set-same, getD-set-other}
-use lib.Dec.{eqb, ltb, leb}
-use borrow.Author.Tests.{ltb-true, ltb-false, eqb-true, eqb-false, lt-ltb, le-ltb}
+use lib.Dec.{eqb, ltb}
+use borrow.Author.Tests.{ltb-true, ltb-false, lt-ltb, le-ltb}
 use Rattle.plant.specs.declared.Plant.{Plant}
 use Rattle.choice.specs.Choice.{unset}
 use Rattle.plant.specs.Checks.{Fits}
 use Rattle.rules.specs.Rules.{Call, set, start, stop, gate, unknown, skidOf, View, refusal, effect, pickFor}
 use Rattle.rules.specs.declared.Monitor.{Monitor}
-use Rattle.rules.specs.Record.{fresh, levelAt, chosenAt, fillFrom, hasLevel, hasChosen, viewOf, changed}
-use Rattle.base.proofs.Logic.{split, cond-cong, and-true, and-intro}
+use Rattle.rules.specs.Record.{levelAt, chosenAt, fillFrom, hasLevel, hasChosen, viewOf, changed}
+use Rattle.base.proofs.Logic.{split, cond-cong, and-true}
 use Rattle.rules.proofs.Pairs.{same, differ}
-use Rattle.rules.proofs.Accepted.{SetOk, StartOk, set-ok, start-ok, stop-ok}
-use Rattle.rules.proofs.Flat.{levelAt-inj, length-fillFrom, fillFrom-out, fillFrom-in}
+use Rattle.rules.proofs.Accepted.{SetOk, set-ok, start-ok, stop-ok}
+use Rattle.rules.proofs.Flat.{length-fillFrom, fillFrom-out, fillFrom-in}
 
 pub record Sized (m : Monitor) : Type 0 where
   pub levels-len : length (m .levels) ≡ 1024

@@ -1,29 +1,20 @@
 -- What the history's views say is what 01's words for the history say. Assumes nothing.
-use mathlib.Core.Path.{_≡_, refl, sym, ap, ap₂, _∙_, subst}
-use mathlib.Core.Logic.{_↔_, _≢_}
-use Prim.Native.Nat.{ℕ, zero, suc, _+_, _*_, _/_, _%_, _^_, _≤_, _<_}
+use mathlib.Core.Path.{_≡_, refl, ap}
+use mathlib.Core.Logic.{_≢_}
+use Prim.Native.Nat.{ℕ, _+_}
 use native.Mathlib.Omega.{arith}
-use native.Mathlib.Decide.{ℕ-discrete}
-use mathlib.Core.Bool.{Bool, true, false, cond, not, _&&_}
 use mathlib.Core.List.{List, [], _∷_, _++_}
-use lib.ListN.{getD}
-use lib.Dec.{eqb, ltb}
-use borrow.Author.Tests.{eqb-true, eqb-false, eq-eqb, ne-eqb, ltb-true, lt-ltb, not-true, not-false}
+use lib.Dec.{eqb}
+use borrow.Author.Tests.{eqb-true, eqb-false, eq-eqb, ne-eqb}
 use Rattle.plant.specs.declared.Plant.{Plant}
 use Rattle.choice.specs.Choice.{unset}
-use Rattle.plant.specs.Plant.{namesRight, needs, groupOf}
-use Rattle.base.specs.Bits.{bit}
-use Rattle.plant.specs.Valid.{Valid}
 use Rattle.plant.specs.Checks.{Fits}
-use Rattle.choice.specs.Choice.{Choice, served, choice}
-use Rattle.rules.specs.Rules.{Call, set, start, stop, gate, unknown, skidOf, View, refusal, answer, granted, holds, pickFor, lacking}
-use Rattle.rules.specs.History.{levelIn, Started, idle, since, startIn, taskOf, tankOf, past, note, history}
-use Rattle.rules.specs.Rights.{Unstopped, Runs, Gives}
-use Rattle.base.proofs.Logic.{split, true-false, and-true, and-intro}
-use Rattle.base.proofs.Below.{any-no}
+use Rattle.rules.specs.Rules.{Call, set, start, stop, gate, unknown}
+use Rattle.rules.specs.History.{idle, since, startIn, taskOf, past}
+use Rattle.rules.specs.Rights.{Unstopped, Runs}
+use Rattle.base.proofs.Logic.{split}
 use Rattle.rules.proofs.Kept.{AllAccepted, sound-after}
 use Rattle.rules.proofs.Accepted.{StartOk, start-ok}
-use Rattle.choice.proofs.Choice.{choice-iff, choice-is, choice-none}
 
 zero-one : _≡_ {A = ℕ} 0 1 → ⊥
 zero-one e = omega arith

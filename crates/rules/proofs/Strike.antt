@@ -1,13 +1,12 @@
 -- Striking out the calls that name other skids leaves a skid's answers and its view. Assumes nothing.
 use mathlib.Core.Path.{_≡_, refl, sym, ap, ap₂, _∙_}
-use mathlib.Core.Logic.{_≢_}
 use Prim.Native.Nat.{ℕ}
-use mathlib.Core.Bool.{Bool, true, false, cond}
+use mathlib.Core.Bool.{false}
 use mathlib.Core.List.{List, [], _∷_}
 use lib.Dec.{eqb}
 use borrow.Author.Tests.{eqb-true, eqb-false}
 use Rattle.plant.specs.declared.Plant.{Plant}
-use Rattle.rules.specs.Rules.{Call, set, start, stop, gate, unknown, skidOf, View, conditions, refusal, answer, effect}
+use Rattle.rules.specs.Rules.{Call, set, start, stop, gate, unknown, skidOf, conditions, refusal, answer, effect}
 use Rattle.rules.specs.History.{past, note, due, dues, history, own, mine}
 use Rattle.base.proofs.Logic.{split}
 use Rattle.rules.proofs.Kept.{AllAccepted, note-sound}

@@ -7,7 +7,7 @@ use mathlib.Core.List.{List, []}
 use Rattle.plant.specs.declared.Plant.{Plant}
 use Rattle.plant.specs.Plant.{namesRight, groupOf}
 use Rattle.choice.specs.Choice.{unset}
-use Rattle.rules.specs.Rules.{Call, gate, View, holds}
+use Rattle.rules.specs.Rules.{Call, gate, holds}
 use Rattle.rules.specs.Record.{fresh, viewOf, intact, reply, replies, final}
 use Rattle.rules.specs.History.{dues, history, own, mine}
 use Rattle.rules.specs.Rights.{Runs, Gives}

@@ -1,6 +1,6 @@
 -- 01's history of a list of calls: the accepted calls, the latest first, read from the plant and the calls' arguments alone.
-use Prim.Native.Nat.{ℕ, zero, suc}
-use mathlib.Core.Bool.{Bool, true, false, cond, _&&_}
+use Prim.Native.Nat.{ℕ}
+use mathlib.Core.Bool.{cond, _&&_}
 use mathlib.Core.List.{List, [], _∷_}
 use lib.Dec.{eqb}
 use Rattle.plant.specs.declared.Plant.{Plant}

@@ -1,8 +1,8 @@
 -- The monitor's record: what it says of each skid, test 20 on it, and what a call answers and makes of it.
 use Prim.Native.Nat.{ℕ, zero, suc, _+_, _*_}
-use mathlib.Core.Bool.{Bool, true, false, cond, _&&_}
+use mathlib.Core.Bool.{Bool, true, cond, _&&_}
 use mathlib.Core.List.{List, [], _∷_}
-use lib.ListN.{getD, length, replicate}
+use lib.ListN.{getD, replicate}
 use lib.ListN as ListN
 use Rattle.rules.specs.declared.Monitor.{Monitor}
 use lib.Dec.{eqb, ltb}
@@ -11,7 +11,7 @@ use Rattle.rules.specs.Intact.{intactView}
 use Rattle.plant.specs.declared.Plant.{Plant}
 use Rattle.plant.specs.Checks.{plantRefusal}
 use Rattle.choice.specs.Choice.{unset}
-use Rattle.rules.specs.Rules.{Call, set, start, stop, gate, unknown, skidOf, View, refusal, granted, answer, pickFor}
+use Rattle.rules.specs.Rules.{Call, set, start, stop, gate, unknown, View, refusal, answer, pickFor}
 
 -- the fresh monitor: an opened plant with nothing set, running or chosen
 unfoldable pub fresh : Plant → Monitor

@@ -1,8 +1,8 @@
 -- `batch::serve` meets its contract: each turn is the run's next call. Assumes nothing.
-use Prim.Native.Nat.{ℕ, _≤_, _<_, _-_, _+_}
-use mathlib.Core.Path.{_≡_, refl, ap, _∙_}
+use Prim.Native.Nat.{_≤_, _<_, _-_}
+use mathlib.Core.Path.{_≡_, refl}
 use native.Mathlib.Omega.{arith}
-use lib.ListN.{length, length-set, getD}
+use lib.ListN.{length, length-set}
 use Rattle.base.specs.Overlay.{overlay}
 use Rattle.rules.specs.declared.Monitor.{Monitor}
 use Rattle.rules.specs.Record.{fresh}
@@ -11,7 +11,7 @@ use Rattle.calls.proofs.Ready.{plant-valid}
 use Rattle.calls.specs.Work.{Remembered}
 use Rattle.calls.proofs.Made.{none-made}
 use Rattle.calls.proofs.Turns.{lent, turned-answer, turned-record}
-use Rattle.batch.specs.Requests.{callsOf, requestAt}
+use Rattle.batch.specs.Requests.{callsOf}
 use Rattle.batch.proofs.Served.{still-intact, next-record, next-out, first-record, first-out}
 use borrow.Author.Needs.{needs}
 use Rattle.batch.proofs.serve.Statement.{statement}

@@ -1,5 +1,5 @@
 -- `calls::put_row` meets its contract: the entries are stored one after the other. Assumes nothing.
-use Prim.Native.Nat.{ℕ, _+_, _*_, _≤_, _-_}
+use Prim.Native.Nat.{_*_, _≤_, _-_}
 use mathlib.Core.Path.{_≡_, refl}
 use Rattle.rules.specs.Record.{fillFrom}
 use Rattle.calls.specs.Work.{getRow}

@@ -1,5 +1,4 @@
 -- `calls::set_at` meets its contract: each test is the definition's, in its order. Assumes nothing.
-use native.Mathlib.Omega.{arith}
 use borrow.Author.Tests.{le-leb, lt-leb}
 use Rattle.plant.proofs.Links.{entry-at}
 use borrow.Author.Needs.{needs}

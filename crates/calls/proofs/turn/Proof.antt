@@ -1,7 +1,6 @@
 -- `calls::turn` meets its contract: each kind is its call's work. Assumes nothing.
-use mathlib.Core.Path.{refl, _∙_}
+use mathlib.Core.Path.{_∙_}
 use borrow.Author.Tests.{ne-eqb}
-use borrow.Author.Needs.{needs}
 use Rattle.calls.proofs.turn.Statement.{statement}
 use Rattle.calls.proofs.turn.Tie as tie
 

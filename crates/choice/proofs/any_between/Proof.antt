@@ -1,5 +1,5 @@
 -- `choice::any_between` meets its contract: a scan over the tanks. Assumes nothing.
-use Prim.Native.Nat.{ℕ, _≤_, _-_}
+use Prim.Native.Nat.{_≤_, _-_}
 use mathlib.Core.Path.{_≡_}
 use mathlib.Core.Bool.{false}
 use Rattle.base.specs.Below.{anyBelow}

@@ -1,5 +1,5 @@
 -- `choice::is_nearest` meets its contract: each test is the definition's. Assumes nothing.
-use mathlib.Core.Path.{_∙_, ap}
+use mathlib.Core.Path.{ap}
 use mathlib.Core.Bool.{not}
 use Rattle.base.proofs.Both.{guards, guard-on}
 use Rattle.plant.proofs.Links.{entry-at}

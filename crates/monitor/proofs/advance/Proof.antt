@@ -1,11 +1,9 @@
 -- `monitor::advance` meets its contract: the work on lent arrays is the call. Assumes nothing.
-use mathlib.Core.Path.{_≡_, _∙_}
 use Rattle.calls.specs.Work.{callBy}
 use Rattle.calls.proofs.Ready.{plant-valid}
 use Rattle.calls.proofs.Made.{none-made}
 use Rattle.calls.proofs.Turns.{lent, turned-answer, turned-record}
 use Rattle.monitor.proofs.Step.{passed-on}
-use borrow.Author.Needs.{needs}
 use Rattle.monitor.proofs.advance.Statement.{statement}
 use Rattle.monitor.proofs.advance.Tie as tie
 

@@ -1,7 +1,6 @@
 -- `monitor::fresh_monitor` meets its contract. Assumes nothing.
 use mathlib.Core.Path.{refl}
 use Rattle.rules.specs.Record.{fresh}
-use borrow.Author.Needs.{needs}
 use Rattle.monitor.proofs.fresh_monitor.Statement.{statement}
 use Rattle.monitor.proofs.fresh_monitor.Tie as tie
 

@@ -3,7 +3,6 @@ use mathlib.Core.Path.{sym, ap, ap₂, _∙_}
 use Prim.Native.Nat.{ℕ}
 use lib.ListN.{length}
 use Rattle.layout.proofs.Parts.{header-there, part-length}
-use Rattle.panel.specs.declared.Place.{Place}
 use Rattle.panel.proofs.Section.{place-refused, place-unknown, place-known}
 use borrow.Author.Needs.{needs}
 use Rattle.panel.proofs.permits_section.Statement.{statement}

@@ -1,5 +1,4 @@
 -- `reader::other_zeros` meets its contract: each test is the definition's, in its order. Assumes nothing.
-use native.Mathlib.Omega.{arith}
 use Rattle.base.proofs.Both.{guards}
 use Rattle.reader.specs.Reading.{otherZeros}
 use borrow.Author.Needs.{needs}

@@ -1,5 +1,4 @@
 -- `reader::read_words` meets its contract: the cells lie within the part that the section fills. Assumes nothing.
-use native.Mathlib.Omega.{arith}
 use native.Mathlib.Nat.{le-of-eq}
 use mathlib.Core.Path.{sym, _∙_}
 use Rattle.layout.proofs.Parts.{header-there, part-length, part-cells}
