@@ -11,7 +11,10 @@ use crate::inputs::{
 use crate::{baseline, rattle};
 
 /// Requests in a measured list.
-pub const REQUESTS: usize = 10_000;
+const REQUESTS: usize = 10_000;
+
+/// Requests in a long one, in which what a list does once no longer shows.
+const LONG: usize = 60_000;
 
 /// One measured call, on both sides.
 pub struct Case {
@@ -25,7 +28,7 @@ pub struct Case {
 /// A row of the table: one case, or the difference of two for each request.
 pub enum Row {
     Whole(Case),
-    PerRequest { name: String, full: Case, empty: Case },
+    PerRequest { name: String, count: usize, full: Case, empty: Case },
 }
 
 /// Every row, for both plants.
@@ -47,20 +50,35 @@ fn plant_rows(plant: &str, file: &[u8]) -> Vec<Row> {
     for (name, requests) in &lists {
         rows.push(Row::PerRequest {
             name: format!("{plant}, batch, a request, {name}"),
+            count: REQUESTS,
             full: batch(plant, name, file, requests),
             empty: batch(plant, "empty", file, &[]),
         });
     }
+    rows.push(later_requests(plant, file));
     rows.push(Row::Whole(batch(plant, "empty", file, &[])));
     for (name, requests) in &lists {
         rows.push(Row::PerRequest {
             name: format!("{plant}, queue, a request, {name}"),
+            count: REQUESTS,
             full: queue_case(plant, name, file, requests),
             empty: queue_case(plant, "empty", file, &[]),
         });
     }
     rows.extend(console_cases(plant, file).into_iter().map(Row::Whole));
     rows
+}
+
+/// A request behind the first of a long list: every choice that it needs was
+/// made before.
+fn later_requests(plant: &str, file: &[u8]) -> Row {
+    let requests = list(file, &MIXED, LONG);
+    Row::PerRequest {
+        name: format!("{plant}, batch, a later request, mixed"),
+        count: LONG - REQUESTS,
+        full: batch(plant, "mixed, long", file, &requests),
+        empty: batch(plant, "mixed", file, &requests[..REQUESTS]),
+    }
 }
 
 fn opening(plant: &str, file: &[u8]) -> Case {

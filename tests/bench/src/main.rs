@@ -13,7 +13,7 @@ use std::env;
 use std::path::Path;
 use std::process::ExitCode;
 
-use permit_bench::cases::{rows, Case, Row, REQUESTS};
+use permit_bench::cases::{rows, Case, Row};
 use permit_bench::clock::{times, Pair};
 use permit_bench::count::instructions_in;
 use permit_bench::programs::Programs;
@@ -42,8 +42,8 @@ fn print_rows(unit: &str, measure: fn(&mut Case) -> Pair) -> bool {
     for row in rows() {
         match row {
             Row::Whole(mut case) => measure(&mut case).print(&case.name),
-            Row::PerRequest { name, mut full, mut empty } => {
-                measure(&mut full).each(measure(&mut empty), REQUESTS).print(&name)
+            Row::PerRequest { name, count, mut full, mut empty } => {
+                measure(&mut full).each(measure(&mut empty), count).print(&name)
             }
         }
     }
