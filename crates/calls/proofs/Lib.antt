@@ -1,6 +1,8 @@
 pub mod Rows
 pub mod Known
 pub mod Made
+pub mod There
+pub mod Grants
 pub mod Groups
 pub mod Early
 pub mod Ready

@@ -42,6 +42,28 @@ abbrev pub gateAnswer : List ℕ → List ℕ → List ℕ → List ℕ → ℕ 
 gateAnswer group rights running chosen skids tanks s o r =
     first (leb skids s gives 21 ∷ leb tanks o gives 29 ∷ leb 3 r gives 30 ∷ not (heldIn group rights running chosen s o r) gives 33 ∷ [])
 
+-- the rights that the task which skid s runs names on group g, and none where it runs nothing
+abbrev pub grantIn : List ℕ → List ℕ → ℕ → ℕ → ℕ
+grantIn rights running s g = cond (eqb (getD running s 0) 255) 0 (getD rights (getD running s 0 * 8 + g) 0)
+
+-- These, kept beside the record so that a gate asks one entry: they follow from the running tasks, and each start and stop keeps them so.
+pub record Granted (rights running : List ℕ) (skids : ℕ) (granted : List ℕ) : Type 0 where
+  pub tasks : length running ≡ 8
+  pub size : length granted ≡ 64
+  pub right : (s g : ℕ) → s < skids → g < 8 → getD granted (chosenAt s g) 0 ≡ grantIn rights running s g
+
+-- the row of a task
+abbrev pub rightsOf : List ℕ → ℕ → ℕ → ℕ
+rightsOf rights t g = getD rights (t * 8 + g) 0
+
+-- the gate by them; proofs/Grants has that it is the same
+abbrev pub grantedIn : List ℕ → List ℕ → List ℕ → ℕ → ℕ → ℕ → Bool
+grantedIn group granted chosen s o r = eqb (getD chosen (chosenAt s (getD group o 0)) 0) o && bit (getD granted (chosenAt s (getD group o 0)) 0) r
+
+abbrev pub gateBy : List ℕ → List ℕ → List ℕ → ℕ → ℕ → ℕ → ℕ → ℕ → ℕ
+gateBy group granted chosen skids tanks s o r =
+    first (leb skids s gives 21 ∷ leb tanks o gives 29 ∷ leb 3 r gives 30 ∷ not (grantedIn group granted chosen s o r) gives 33 ∷ [])
+
 -- start: a group on which the task names a right has no level
 abbrev pub blankIn : List ℕ → List ℕ → List ℕ → ℕ → ℕ → ℕ → Bool
 blankIn requirement rights levels s t g = not (eqb (getD rights (t * 8 + g) 0) 0) && eqb (getD levels (levelAt s t (getD requirement g 0)) 0) 255
@@ -102,6 +124,9 @@ stopRunning skids s running = cond (leb skids s) running (ListN.set running s 25
 
 abbrev pub stopChosen : ℕ → ℕ → List ℕ → List ℕ
 stopChosen skids s chosen = cond (leb skids s) chosen (fillFrom chosen (s * 8) (getRow (replicate 8 255)) 8)
+
+abbrev pub stopGranted : ℕ → ℕ → List ℕ → List ℕ
+stopGranted skids s granted = cond (leb skids s) granted (fillFrom granted (s * 8) (getRow (replicate 8 0)) 8)
 
 -- a group's requirement and its lattice are there, and the level that a skid has for it is unset or a level
 abbrev pub linkIn : List ℕ → List ℕ → ℕ → Bool

@@ -3,13 +3,13 @@
 mod start;
 
 ghost use mathlib.Core.Path.{_≡_};
-ghost use mathlib.Core.Bool.{true};
+ghost use mathlib.Core.Bool.{true, cond};
 ghost use Prim.Native.Nat.{_*_, _<_, _≤_};
-ghost use lib.ListN.{getD};
+ghost use lib.ListN.{getD, length};
 ghost use Rattle.base.specs.Below.{allBelow};
 ghost use Rattle.plant.specs.Checks.{entryBelow};
 ghost use Rattle.rules.specs.Record.{fillFrom};
-ghost use Rattle.calls.specs.Work.{taskKnown, setNumber, setLevels, gateAnswer, Lent, Turned, heldIn, getRow, Remembered, stopNumber, stopRunning, stopChosen};
+ghost use Rattle.calls.specs.Work.{taskKnown, setNumber, setLevels, gateBy, grantedIn, Granted, rightsOf, stopGranted, Lent, Turned, heldIn, getRow, Remembered, stopNumber, stopRunning, stopChosen};
 use plant::Right;
 use start::start_at;
 
@@ -17,6 +17,20 @@ fn wide(x: u8) -> usize
     ensures { λ r. ⌜ r ≡ x ⌝ }
 {
     x as usize
+}
+
+// The number of the first item that is not there: 21 for the skid, or that of the second or the third. The three are tested at once before, so
+// that a call whose items are all there asks one question.
+fn missing(skid: bool, other: bool, second: u8, third: u8) -> u8
+    ensures { λ r. ⌜ r ≡ cond skid 21 (cond other second third) ⌝ }
+{
+    if skid {
+        return 21;
+    }
+    if other {
+        return second;
+    }
+    third
 }
 
 // Set: 21 to 24, or the level is stored.
@@ -36,14 +50,10 @@ fn set_at<'a>(
     requires { ⌜ allBelow (entryBelow (now lattice) 8) requirements ≡ true ⌝ }
     ensures { λ r. ⌜ (r ≡ setNumber (now (sizes .entry)) (now (lattice .entry)) skids tasks requirements s t d v) × (now (levels .exit) ≡ setLevels (setNumber (now (sizes .entry)) (now (lattice .entry)) skids tasks requirements s t d v) (now (levels .entry)) s t d v) ⌝ }
 {
-    if skids <= s {
-        return 21;
-    }
-    if tasks <= t {
-        return 22;
-    }
-    if requirements <= d {
-        return 23;
+    let no_skid = skids <= s;
+    let no_task = tasks <= t;
+    if no_skid | no_task | (requirements <= d) {
+        return missing(no_skid, no_task, 22, 23);
     }
     let l = wide(lattice[d as usize]);
     if sizes[l] <= v {
@@ -56,8 +66,7 @@ fn set_at<'a>(
 // Gate: 21, 29, 30; 0 where the skid holds the right, and else 33.
 fn gate_at<'a, 'b>(
     group: &'a [u8; 64],
-    rights: &'a [u8; 128],
-    running: &'b [u8; 8],
+    granted: &'b [u8; 64],
     chosen: &'b [u8; 64],
     skids: u8,
     tanks: u8,
@@ -67,25 +76,38 @@ fn gate_at<'a, 'b>(
 ) -> u8
     requires { ⌜ (skids ≤ 8) × (tanks ≤ 64) ⌝ }
     requires { ⌜ allBelow (entryBelow (now group) 8) tanks ≡ true ⌝ }
-    requires { ⌜ allBelow (taskKnown (now running)) skids ≡ true ⌝ }
-    ensures { λ x. ⌜ x ≡ gateAnswer (now (group .entry)) (now (rights .entry)) (now (running .entry)) (now (chosen .entry)) skids tanks s o r ⌝ }
+    ensures { λ x. ⌜ x ≡ gateBy (now (group .entry)) (now (granted .entry)) (now (chosen .entry)) skids tanks s o r ⌝ }
 {
-    if skids <= s {
-        return 21;
+    let no_skid = skids <= s;
+    let no_tank = tanks <= o;
+    if no_skid | no_tank | !Right::valid(r) {
+        return missing(no_skid, no_tank, 29, 30);
     }
-    if tanks <= o {
-        return 29;
-    }
-    if !Right::valid(r) {
-        return 30;
-    }
-    if !is_held(group, rights, running, chosen, s as usize, o, r) {
+    if !is_granted(group, granted, chosen, s as usize, o, r) {
         return 33;
     }
     0
 }
 
-// Whether skid s holds right r on tank o.
+// Whether skid s holds right r on tank o, by the rights granted. Both halves are looked at, since nobody can foretell how a gate is answered.
+fn is_granted<'a, 'b>(
+    group: &'a [u8; 64],
+    granted: &'b [u8; 64],
+    chosen: &'b [u8; 64],
+    s: usize,
+    o: u8,
+    r: u8,
+) -> bool
+    requires { ⌜ (s < 8) × ((o < 64) × (r < 3)) ⌝ }
+    requires { ⌜ getD (now group) o 0 < 8 ⌝ }
+    ensures { λ x. ⌜ x ≡ grantedIn (now (group .entry)) (now (granted .entry)) (now (chosen .entry)) s o r ⌝ }
+{
+    let at = s * 8 + wide(group[o as usize]);
+    let x = granted[at];
+    (chosen[at] == o) & ((x >> r) % 2 == 1)
+}
+
+// Whether skid s holds right r on tank o, by the record.
 pub fn is_held<'a, 'b>(
     group: &'a [u8; 64],
     rights: &'a [u8; 128],
@@ -121,20 +143,54 @@ fn put_row(chosen: &mut [u8; 64], s: usize, row: [u8; 8])
     }
 }
 
+// The rights of a task, to the skid that runs it.
+fn grant_row<'a>(granted: &mut [u8; 64], rights: &'a [u8; 128], s: usize, t: usize)
+    requires { ⌜ (s < 8) × (t < 16) ⌝ }
+    ensures { λ r. ⌜ now (granted .exit) ≡ fillFrom (now (granted .entry)) (s * 8) (rightsOf (now (rights .entry)) t) 8 ⌝ }
+{
+    for g in 0..8 {
+        granted[s * 8 + g] = rights[t * 8 + g];
+    }
+}
+
+// The rights of the running tasks of a record.
+pub fn grants_of<'a>(rights: &'a [u8; 128], running: &'a [u8; 8], skids: u8) -> [u8; 64]
+    requires { ⌜ (skids ≤ 8) × (length (now running) ≡ 8) ⌝ }
+    requires { ⌜ allBelow (taskKnown (now running)) skids ≡ true ⌝ }
+    ensures { λ r. ⌜ Granted (now (rights .entry)) (now (running .entry)) skids r ⌝ }
+{
+    let mut granted = [0u8; 64];
+    for s in 0..skids as usize {
+        let t = running[s];
+        if t != 255 {
+            grant_row(&mut granted, rights, s, wide(t));
+        }
+    }
+    granted
+}
+
 // Stop: 21, or the skid runs nothing and has no tank.
-fn stop_at(running: &mut [u8; 8], chosen: &mut [u8; 64], skids: u8, s: u8) -> u8
+fn stop_at(
+    running: &mut [u8; 8],
+    chosen: &mut [u8; 64],
+    granted: &mut [u8; 64],
+    skids: u8,
+    s: u8,
+) -> u8
     requires { ⌜ skids ≤ 8 ⌝ }
-    ensures { λ r. ⌜ (r ≡ stopNumber skids s) × ((now (running .exit) ≡ stopRunning skids s (now (running .entry))) × (now (chosen .exit) ≡ stopChosen skids s (now (chosen .entry)))) ⌝ }
+    ensures { λ r. ⌜ (r ≡ stopNumber skids s) × ((now (running .exit) ≡ stopRunning skids s (now (running .entry))) × ((now (chosen .exit) ≡ stopChosen skids s (now (chosen .entry))) × (now (granted .exit) ≡ stopGranted skids s (now (granted .entry))))) ⌝ }
 {
     if skids <= s {
         return 21;
     }
     running[s as usize] = 255;
     put_row(chosen, s as usize, [255u8; 8]);
+    put_row(granted, s as usize, [0u8; 8]);
     0
 }
 
-// One request of any kind: 0 set, 1 start, 2 stop, 3 gate, and 32 for another. `made` has the choices of earlier requests, where the caller keeps them.
+// One request of any kind: 0 set, 1 start, 2 stop, 3 gate, and 32 for another. `made` has the choices of earlier requests, where the
+// caller keeps them, and `granted` the rights of the running tasks.
 pub fn turn<'a>(
     sizes: &'a [u8; 8],
     sets: &'a [u16; 128],
@@ -148,6 +204,7 @@ pub fn turn<'a>(
     running: &mut [u8; 8],
     chosen: &mut [u8; 64],
     made: &mut [u8; 128],
+    granted: &mut [u8; 64],
     skids: u8,
     tasks: u8,
     requirements: u8,
@@ -162,8 +219,15 @@ pub fn turn<'a>(
     requires { ⌜ (skids ≤ 8) × ((tasks ≤ 16) × ((requirements ≤ 8) × ((groups ≤ 8) × (tanks ≤ 64)))) ⌝ }
     requires { ⌜ Lent (now lattice) (now requirement) (now group) (now level) (now levels) (now running) skids tasks requirements groups tanks ⌝ }
     requires { ⌜ Remembered (now sets) (now group) (now level) (now lattice) (now requirement) tanks (now made) ⌝ }
-    ensures { λ r. ⌜ (Turned (now (sizes .entry)) (now (sets .entry)) (now (lattice .entry)) (now (requirement .entry)) (now (group .entry)) (now (level .entry)) (now (rights .entry)) (now (may .entry)) (now (levels .entry)) (now (running .entry)) (now (chosen .entry)) skids tasks requirements groups tanks kind a b c d r (now (levels .exit)) (now (running .exit)) (now (chosen .exit))) × Remembered (now (sets .entry)) (now (group .entry)) (now (level .entry)) (now (lattice .entry)) (now (requirement .entry)) tanks (now (made .exit)) ⌝ }
+    requires { ⌜ Granted (now rights) (now running) skids (now granted) ⌝ }
+    ensures { λ r. ⌜ (Turned (now (sizes .entry)) (now (sets .entry)) (now (lattice .entry)) (now (requirement .entry)) (now (group .entry)) (now (level .entry)) (now (rights .entry)) (now (may .entry)) (now (levels .entry)) (now (running .entry)) (now (chosen .entry)) skids tasks requirements groups tanks kind a b c d r (now (levels .exit)) (now (running .exit)) (now (chosen .exit))) × (Remembered (now (sets .entry)) (now (group .entry)) (now (level .entry)) (now (lattice .entry)) (now (requirement .entry)) tanks (now (made .exit)) × Granted (now (rights .entry)) (now (running .exit)) skids (now (granted .exit))) ⌝ }
 {
+    if 2 < kind {
+        if kind == 3 {
+            return gate_at(group, granted, chosen, skids, tanks, a, b, c);
+        }
+        return 32;
+    }
     if kind == 0 {
         return set_at(
             levels,
@@ -191,6 +255,7 @@ pub fn turn<'a>(
             running,
             chosen,
             made,
+            granted,
             skids,
             tasks,
             groups,
@@ -199,11 +264,5 @@ pub fn turn<'a>(
             b,
         );
     }
-    if kind == 2 {
-        return stop_at(running, chosen, skids, a);
-    }
-    if kind == 3 {
-        return gate_at(group, rights, running, chosen, skids, tanks, a, b, c);
-    }
-    32
+    stop_at(running, chosen, granted, skids, a)
 }

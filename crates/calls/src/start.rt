@@ -6,7 +6,8 @@ ghost use lib.ListN.{getD, replicate};
 ghost use Rattle.base.specs.Below.{allBelow};
 ghost use Rattle.base.specs.Chain.{first};
 ghost use Rattle.plant.specs.Checks.{entryBelow};
-ghost use Rattle.calls.specs.Work.{levelKnown, earlyTests, linkIn, wishKnown, GroupDone, RowDone, Started, groupChoice, Remembered};
+ghost use Rattle.calls.specs.Work.{levelKnown, earlyTests, linkIn, wishKnown, GroupDone, RowDone, Started, groupChoice, Remembered, Granted};
+use crate::grant_row;
 use crate::put_row;
 use crate::wide;
 use choice::choose;
@@ -152,7 +153,7 @@ fn start_early(may: &[u16; 8], running: &[u8; 8], skids: u8, tasks: u8, s: u8, t
     0
 }
 
-// Start: 21 to 28, or the task runs and its groups get their choice, the skid's other groups 255.
+// Start: 21 to 28, or the task runs with its rights and its groups get their choice, the skid's other groups 255.
 pub fn start_at<'a>(
     sets: &'a [u16; 128],
     group: &'a [u8; 64],
@@ -165,6 +166,7 @@ pub fn start_at<'a>(
     running: &mut [u8; 8],
     chosen: &mut [u8; 64],
     made: &mut [u8; 128],
+    granted: &mut [u8; 64],
     skids: u8,
     tasks: u8,
     groups: u8,
@@ -176,8 +178,9 @@ pub fn start_at<'a>(
     requires { ⌜ allBelow (linkIn (now lattice) (now requirement)) groups ≡ true ⌝ }
     requires { ⌜ allBelow (entryBelow (now level) 16) tanks ≡ true ⌝ }
     requires { ⌜ Remembered (now sets) (now group) (now level) (now lattice) (now requirement) tanks (now made) ⌝ }
+    requires { ⌜ Granted (now rights) (now running) skids (now granted) ⌝ }
     requires { ⌜ (s < skids → t < tasks → allBelow (wishKnown (now requirement) (now levels) s t) groups ≡ true) ⌝ }
-    ensures { λ r. ⌜ (Started (now (sets .entry)) (now (group .entry)) (now (level .entry)) (now (lattice .entry)) (now (requirement .entry)) (now (rights .entry)) (now (may .entry)) (now (levels .entry)) (now (running .entry)) (now (chosen .entry)) skids tasks groups tanks s t r (now (running .exit)) (now (chosen .exit))) × Remembered (now (sets .entry)) (now (group .entry)) (now (level .entry)) (now (lattice .entry)) (now (requirement .entry)) tanks (now (made .exit)) ⌝ }
+    ensures { λ r. ⌜ (Started (now (sets .entry)) (now (group .entry)) (now (level .entry)) (now (lattice .entry)) (now (requirement .entry)) (now (rights .entry)) (now (may .entry)) (now (levels .entry)) (now (running .entry)) (now (chosen .entry)) skids tasks groups tanks s t r (now (running .exit)) (now (chosen .exit))) × (Remembered (now (sets .entry)) (now (group .entry)) (now (level .entry)) (now (lattice .entry)) (now (requirement .entry)) tanks (now (made .exit)) × Granted (now (rights .entry)) (now (running .exit)) skids (now (granted .exit))) ⌝ }
 {
     let early = start_early(may, running, skids, tasks, s, t);
     if early != 0 {
@@ -204,5 +207,6 @@ pub fn start_at<'a>(
     }
     running[s as usize] = t;
     put_row(chosen, s as usize, row);
+    grant_row(granted, rights, s as usize, t as usize);
     0
 }

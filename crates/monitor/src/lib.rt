@@ -6,6 +6,7 @@ ghost use mathlib.Core.Bool.{true};
 ghost use Rattle.rules.specs.Record.{fresh, intact};
 ghost use Rattle.calls.specs.Work.{callBy};
 ghost use Rattle.monitor.specs.Calls.{stepOf, openedOf};
+use calls::grants_of;
 use calls::turn;
 use intact::is_intact;
 use plant::Plant;
@@ -70,6 +71,7 @@ pub fn advance(m: Monitor, kind: u8, a: u8, b: u8, c: u8, d: u8) -> Answered
     let mut running = m.running;
     let mut chosen = m.chosen;
     let mut made = [254u8; 128];
+    let mut granted = grants_of(&p.rights, &running, p.skids);
     let answer = turn(
         &p.sizes,
         &p.sets,
@@ -83,6 +85,7 @@ pub fn advance(m: Monitor, kind: u8, a: u8, b: u8, c: u8, d: u8) -> Answered
         &mut running,
         &mut chosen,
         &mut made,
+        &mut granted,
         p.skids,
         p.tasks,
         p.requirements,
