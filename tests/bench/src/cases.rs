@@ -10,17 +10,27 @@ use crate::inputs::{
 };
 use crate::{baseline, rattle};
 
+/// Request records.
+type List = Vec<[u8; 5]>;
+
 /// Requests in a measured list.
 const REQUESTS: usize = 10_000;
 
 /// Requests in a long one, in which what a list does once no longer shows.
 const LONG: usize = 60_000;
 
-/// One measured call, on both sides.
+/// One measured call.
 pub struct Case {
     pub name: String,
     /// The functions that do the work, by the names that a profiler sees.
     pub functions: [&'static str; 2],
+    /// The call on both sides. Its input is made here and not before, so that a
+    /// profiler that wants one case waits for no other's.
+    pub sides: Box<dyn Fn() -> Sides>,
+}
+
+/// The same call of each side.
+pub struct Sides {
     pub rattle: Box<dyn FnMut()>,
     pub baseline: Box<dyn FnMut()>,
 }
@@ -41,28 +51,28 @@ pub fn rows() -> Vec<Row> {
 }
 
 fn plant_rows(plant: &str, file: &[u8]) -> Vec<Row> {
-    let lists = [
-        ("mixed", list(file, &MIXED, REQUESTS)),
-        ("start and stop", list(file, &START_STOP, REQUESTS)),
-        ("wild", wild_list(REQUESTS)),
+    let lists: [(&str, fn(&[u8]) -> List); 3] = [
+        ("mixed", |file| list(file, &MIXED, REQUESTS)),
+        ("start and stop", |file| list(file, &START_STOP, REQUESTS)),
+        ("wild", |_| wild_list(REQUESTS)),
     ];
     let mut rows = vec![Row::Whole(opening(plant, file))];
-    for (name, requests) in &lists {
+    for (name, requests) in lists {
         rows.push(Row::PerRequest {
             name: format!("{plant}, batch, a request, {name}"),
             count: REQUESTS,
             full: batch(plant, name, file, requests),
-            empty: batch(plant, "empty", file, &[]),
+            empty: batch(plant, "empty", file, |_| Vec::new()),
         });
     }
     rows.push(later_requests(plant, file));
-    rows.push(Row::Whole(batch(plant, "empty", file, &[])));
-    for (name, requests) in &lists {
+    rows.push(Row::Whole(batch(plant, "empty", file, |_| Vec::new())));
+    for (name, requests) in lists {
         rows.push(Row::PerRequest {
             name: format!("{plant}, queue, a request, {name}"),
             count: REQUESTS,
             full: queue_case(plant, name, file, requests),
-            empty: queue_case(plant, "empty", file, &[]),
+            empty: queue_case(plant, "empty", file, |_| Vec::new()),
         });
     }
     rows.extend(console_cases(plant, file).into_iter().map(Row::Whole));
@@ -72,63 +82,83 @@ fn plant_rows(plant: &str, file: &[u8]) -> Vec<Row> {
 /// A request behind the first of a long list: every choice that it needs was
 /// made before.
 fn later_requests(plant: &str, file: &[u8]) -> Row {
-    let requests = list(file, &MIXED, LONG);
     Row::PerRequest {
         name: format!("{plant}, batch, a later request, mixed"),
         count: LONG - REQUESTS,
-        full: batch(plant, "mixed, long", file, &requests),
-        empty: batch(plant, "mixed", file, &requests[..REQUESTS]),
+        full: batch(plant, "mixed, long", file, |file| list(file, &MIXED, LONG)),
+        empty: batch(plant, "mixed", file, |file| list(file, &MIXED, REQUESTS)),
     }
 }
 
 fn opening(plant: &str, file: &[u8]) -> Case {
-    let (file, other_file) = (file.to_vec(), file.to_vec());
-    let (mut record, mut other) = (Record::zeros(), Record::zeros());
+    let file = file.to_vec();
+    let sides = move || {
+        let (file, other_file) = (file.clone(), file.clone());
+        let (mut record, mut other) = (Record::zeros(), Record::zeros());
+        Sides {
+            rattle: Box::new(move || {
+                black_box(rattle::open(&mut record, black_box(&file)));
+            }),
+            baseline: Box::new(move || {
+                black_box(baseline::open(&mut other, black_box(&other_file)));
+            }),
+        }
+    };
     Case {
         name: format!("{plant}, opening"),
         functions: ["permits_open", "baseline_open"],
-        rattle: Box::new(move || {
-            black_box(rattle::open(&mut record, black_box(&file)));
-        }),
-        baseline: Box::new(move || {
-            black_box(baseline::open(&mut other, black_box(&other_file)));
-        }),
+        sides: Box::new(sides),
     }
 }
 
-fn batch(plant: &str, name: &str, file: &[u8], requests: &[[u8; 5]]) -> Case {
-    let (file, other_file) = (file.to_vec(), file.to_vec());
-    let (requests, other_requests) = (requests.concat(), requests.concat());
-    let mut out = vec![0; requests.len() / 5 + 577];
-    let mut other_out = out.clone();
+fn batch(plant: &str, name: &str, file: &[u8], requests: fn(&[u8]) -> List) -> Case {
+    let file = file.to_vec();
+    let sides = move || {
+        let (file, other_file) = (file.clone(), file.clone());
+        let requests = requests(&file).concat();
+        let other_requests = requests.clone();
+        let mut out = vec![0; requests.len() / 5 + 577];
+        let mut other_out = out.clone();
+        Sides {
+            rattle: Box::new(move || {
+                black_box(rattle::batch(black_box(&file), black_box(&requests), &mut out));
+            }),
+            baseline: Box::new(move || {
+                let file = black_box(&other_file);
+                black_box(baseline::batch(file, black_box(&other_requests), &mut other_out));
+            }),
+        }
+    };
     Case {
         name: format!("{plant}, batch, {name}"),
         functions: ["permits_batch", "baseline_batch"],
-        rattle: Box::new(move || {
-            black_box(rattle::batch(black_box(&file), black_box(&requests), &mut out));
-        }),
-        baseline: Box::new(move || {
-            let file = black_box(&other_file);
-            black_box(baseline::batch(file, black_box(&other_requests), &mut other_out));
-        }),
+        sides: Box::new(sides),
     }
 }
 
-fn queue_case(plant: &str, name: &str, file: &[u8], requests: &[[u8; 5]]) -> Case {
-    let (requests, other_requests) = (requests.to_vec(), requests.to_vec());
-    let mut record = permit_monitor::open(file).1;
-    let mut other = record;
-    let mut out = vec![0; requests.len()];
-    let mut other_out = out.clone();
+fn queue_case(plant: &str, name: &str, file: &[u8], requests: fn(&[u8]) -> List) -> Case {
+    let file = file.to_vec();
+    let sides = move || {
+        let requests = requests(&file);
+        let other_requests = requests.clone();
+        let mut record = permit_monitor::open(&file).1;
+        let mut other = record;
+        let mut out = vec![0; requests.len()];
+        let mut other_out = out.clone();
+        Sides {
+            rattle: Box::new(move || {
+                black_box(rattle::queue(&mut record, black_box(&requests), &mut out));
+            }),
+            baseline: Box::new(move || {
+                let requests = black_box(&other_requests);
+                black_box(baseline::queue(&mut other, requests, &mut other_out));
+            }),
+        }
+    };
     Case {
         name: format!("{plant}, queue, {name}"),
         functions: ["permits_queue", "baseline_queue"],
-        rattle: Box::new(move || {
-            black_box(rattle::queue(&mut record, black_box(&requests), &mut out));
-        }),
-        baseline: Box::new(move || {
-            black_box(baseline::queue(&mut other, black_box(&other_requests), &mut other_out));
-        }),
+        sides: Box::new(sides),
     }
 }
 
@@ -169,17 +199,18 @@ fn console_case(
     request: [u8; 5],
     restore: impl Fn(&mut Record) + Copy + 'static,
 ) -> Case {
-    let (mut record, mut other) = (record, record);
-    Case {
-        name,
-        functions: ["permits_call", "baseline_call"],
-        rattle: Box::new(move || {
-            assert_eq!(rattle::call(&mut record, black_box(request)), 0);
-            restore(&mut record);
-        }),
-        baseline: Box::new(move || {
-            assert_eq!(baseline::call(&mut other, black_box(request)), 0);
-            restore(&mut other);
-        }),
-    }
+    let sides = move || {
+        let (mut record, mut other) = (record, record);
+        Sides {
+            rattle: Box::new(move || {
+                assert_eq!(rattle::call(&mut record, black_box(request)), 0);
+                restore(&mut record);
+            }),
+            baseline: Box::new(move || {
+                assert_eq!(baseline::call(&mut other, black_box(request)), 0);
+                restore(&mut other);
+            }),
+        }
+    };
+    Case { name, functions: ["permits_call", "baseline_call"], sides: Box::new(sides) }
 }

@@ -37,25 +37,26 @@ fn main() -> ExitCode {
     }
 }
 
-fn print_rows(unit: &str, measure: fn(&mut Case) -> Pair) -> bool {
+fn print_rows(unit: &str, measure: fn(&Case) -> Pair) -> bool {
     println!("{unit:46} {:>9} {:>9} {:>6}", "Rattle", "baseline", "ratio");
     for row in rows() {
         match row {
-            Row::Whole(mut case) => measure(&mut case).print(&case.name),
-            Row::PerRequest { name, count, mut full, mut empty } => {
-                measure(&mut full).each(measure(&mut empty), count).print(&name)
+            Row::Whole(case) => measure(&case).print(&case.name),
+            Row::PerRequest { name, count, full, empty } => {
+                measure(&full).each(measure(&empty), count).print(&name)
             }
         }
     }
     true
 }
 
-fn case_times(case: &mut Case) -> Pair {
-    times(&mut case.rattle, &mut case.baseline)
+fn case_times(case: &Case) -> Pair {
+    let mut sides = (case.sides)();
+    times(&mut sides.rattle, &mut sides.baseline)
 }
 
 /// Each side is counted in a run of its own.
-fn case_instructions(case: &mut Case) -> Pair {
+fn case_instructions(case: &Case) -> Pair {
     let this = env::current_exe().expect("the path of this program");
     let count = |function: &str, side: &str| {
         instructions_in(function, &this, &["once", &case.name, side]).unwrap_or(f64::NAN)
@@ -68,10 +69,11 @@ fn case_instructions(case: &mut Case) -> Pair {
 fn print_stack() -> bool {
     println!("{:46} {:>9} {:>9}", "bytes of stack", "Rattle", "baseline");
     let mut most: BTreeMap<&str, [usize; 2]> = BTreeMap::new();
-    for mut case in cases() {
+    for case in cases() {
+        let mut sides = (case.sides)();
         let [rattle, baseline] = most.entry(case.functions[0]).or_default();
-        *rattle = stack_of(&mut case.rattle).max(*rattle);
-        *baseline = stack_of(&mut case.baseline).max(*baseline);
+        *rattle = stack_of(&mut sides.rattle).max(*rattle);
+        *baseline = stack_of(&mut sides.baseline).max(*baseline);
     }
     for (function, [rattle, baseline]) in most {
         println!("{function:46} {rattle:9} {baseline:9}");
@@ -92,12 +94,13 @@ fn cases() -> impl Iterator<Item = Case> {
 }
 
 fn once(name: &str, side: &str) -> bool {
-    let Some(mut case) = cases().find(|case| case.name == name) else {
+    let Some(case) = cases().find(|case| case.name == name) else {
         return false;
     };
+    let mut sides = (case.sides)();
     match side {
-        "rattle" => (case.rattle)(),
-        "baseline" => (case.baseline)(),
+        "rattle" => (sides.rattle)(),
+        "baseline" => (sides.baseline)(),
         _ => return false,
     }
     true
