@@ -75,7 +75,7 @@ and-bit = by-digits bitAnd min _&&_ and-step and-shr (digits (λ u v. eqb (min u
 pub or-bit : (x y i : ℕ) → bit (bitOr x y) i ≡ bit x i || bit y i
 or-bit = by-digits bitOr max _||_ or-step or-shr (digits (λ u v. eqb (max u v % 2) 1 ≡ eqb u 1 || eqb v 1) refl refl refl refl)
 
-xor-bit : (x y i : ℕ) → bit (bitXor x y) i ≡ cond (bit x i) (not (bit y i)) (bit y i)
+pub xor-bit : (x y i : ℕ) → bit (bitXor x y) i ≡ cond (bit x i) (not (bit y i)) (bit y i)
 xor-bit =
     by-digits bitXor differ (λ a b. cond a (not b) b) xor-step xor-shr
     (digits (λ u v. eqb (differ u v % 2) 1 ≡ cond (eqb u 1) (not (eqb v 1)) (eqb v 1)) refl refl refl refl)
@@ -94,7 +94,7 @@ own-bit i = ap (λ (m : ℕ). m / 2 ^ i % 2) (sym (one-mul (2 ^ i))) ∙ ap (λ 
 lower-bit : (i j : ℕ) → i < j → 2 ^ i / 2 ^ j % 2 ≡ 0
 lower-bit i j l = ap (λ (m : ℕ). m % 2) (div-eq-of-lt (pow-lt l))
 
-power-bit : (i j : ℕ) → bit (2 ^ i) j ≡ eqb i j
+pub power-bit : (i j : ℕ) → bit (2 ^ i) j ≡ eqb i j
 power-bit i j = elim (decLt i j) [
   | yes l ↦ rw (lower-bit i j l) (sym (ne-eqb i j (λ e. omega (arith, e))))
   | no l ↦ elim (decLt j i) [

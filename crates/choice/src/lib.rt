@@ -1,127 +1,129 @@
-// The choice of a tank from a group: the nearest one at or under the level asked for, and of several the one with the lowest number.
+// The choice of a tank from each group under each level: the nearest one at or under the level, and of several the one with the lowest number.
 ghost use mathlib.Core.Path.{_≡_};
-ghost use mathlib.Core.Bool.{true};
-ghost use Prim.Native.Nat.{_+_, _*_, _<_, _≤_};
-ghost use lib.ListN.{getD};
+ghost use mathlib.Core.Bool.{true, cond, not, _&&_, _||_};
+ghost use Prim.Native.Nat.{ℕ, _+_, _*_, _<_, _≤_};
+ghost use lib.Dec.{eqb};
+ghost use lib.ListN.{length, getD};
 ghost use Rattle.base.specs.Below.{allBelow, anyBelow};
+ghost use Rattle.base.specs.Bits.{bit};
 ghost use Rattle.plant.specs.Checks.{entryBelow};
-ghost use Rattle.choice.specs.Search.{underIn, servesIn, betweenIn, nearestIn, choiceIn};
+ghost use Rattle.choice.specs.Search.{underIn};
+ghost use Rattle.choice.specs.Table.{linkIn, ChoicesIn, standsIn, reachesIn, nearerIn, Put};
+use lattice::has;
+use lattice::with_set;
 
-// In lattice l, level i is at or under level j.
-fn is_under(sets: &[u16; 128], l: usize, i: u8, j: u8) -> bool
-    requires { ⌜ (l < 8) × ((i < 16) × (j < 16)) ⌝ }
-    ensures { λ r. ⌜ r ≡ underIn (now (sets .entry)) l i j ⌝ }
+// The set x with level i.
+fn with_level(x: u16, i: u8) -> u16
+    requires { ⌜ i < 16 ⌝ }
+    ensures { λ r. ⌜ ((j : ℕ) → bit r j ≡ bit x j || eqb i j) ⌝ }
 {
-    let at = l * 16 + i as usize;
-    (sets[at] >> j) % 2 == 1
+    x | (1u16 << i)
 }
 
-// Tank o is of group g, and at or under level v.
-fn serves<'a>(
-    sets: &'a [u16; 128],
-    group: &'a [u8; 64],
-    level: &'a [u8; 64],
-    l: usize,
-    g: u8,
-    v: u8,
-    o: usize,
-) -> bool
-    requires { ⌜ (l < 8) × ((v < 16) × (o < 64)) ⌝ }
-    requires { ⌜ getD (now level) o 0 < 16 ⌝ }
-    ensures { λ r. ⌜ r ≡ servesIn (now (sets .entry)) (now (group .entry)) (now (level .entry)) l g v o ⌝ }
+// The set x without level i.
+fn without_level(x: u16, i: usize) -> u16
+    requires { ⌜ i < 16 ⌝ }
+    ensures { λ r. ⌜ ((j : ℕ) → bit r j ≡ bit x j && not (eqb i j)) ⌝ }
 {
-    if group[o] != g {
-        return false;
-    }
-    is_under(sets, l, level[o], v)
+    if has(x, i) { x ^ (1u16 << i) } else { x }
 }
 
-// Tank b serves too, and is strictly above level x.
-fn is_between<'a>(
-    sets: &'a [u16; 128],
-    group: &'a [u8; 64],
-    level: &'a [u8; 64],
-    l: usize,
-    g: u8,
-    v: u8,
-    x: u8,
-    b: usize,
-) -> bool
-    requires { ⌜ (l < 8) × ((v < 16) × ((x < 16) × (b < 64))) ⌝ }
-    requires { ⌜ getD (now level) b 0 < 16 ⌝ }
-    ensures { λ r. ⌜ r ≡ betweenIn (now (sets .entry)) (now (group .entry)) (now (level .entry)) l g v x b ⌝ }
+// The levels of the set x that are not in y.
+fn without_set(x: u16, y: u16) -> u16
+    ensures { λ r. ⌜ ((j : ℕ) → bit r j ≡ bit x j && not (bit y j)) ⌝ }
 {
-    if !serves(sets, group, level, l, g, v, b) {
-        return false;
-    }
-    if !is_under(sets, l, x, level[b]) {
-        return false;
-    }
-    x != level[b]
+    x & (x ^ y)
 }
 
-fn any_between<'a>(
-    sets: &'a [u16; 128],
-    group: &'a [u8; 64],
-    level: &'a [u8; 64],
-    l: usize,
-    g: u8,
-    v: u8,
-    x: u8,
-    tanks: usize,
-) -> bool
-    requires { ⌜ (l < 8) × ((v < 16) × ((x < 16) × (tanks ≤ 64))) ⌝ }
-    requires { ⌜ allBelow (entryBelow (now level) 16) tanks ≡ true ⌝ }
-    ensures { λ r. ⌜ r ≡ anyBelow (betweenIn (now (sets .entry)) (now (group .entry)) (now (level .entry)) l g v x) tanks ⌝ }
+// The levels at which each group has a tank, as sets.
+fn places_of<'a>(group: &'a [u8; 64], level: &'a [u8; 64], tanks: usize) -> [u16; 8]
+    requires { ⌜ tanks ≤ 64 ⌝ }
+    requires { ⌜ (allBelow (entryBelow (now group) 8) tanks ≡ true) × (allBelow (entryBelow (now level) 16) tanks ≡ true) ⌝ }
+    ensures { λ r. ⌜ ((g y : ℕ) → g < 8 → bit (getD r g 0) y ≡ anyBelow (standsIn (now (group .entry)) (now (level .entry)) g y) tanks) ⌝ }
 {
-    for b in 0..tanks {
-        if is_between(sets, group, level, l, g, v, x, b) {
-            return true;
-        }
-    }
-    false
-}
-
-fn is_nearest<'a>(
-    sets: &'a [u16; 128],
-    group: &'a [u8; 64],
-    level: &'a [u8; 64],
-    l: usize,
-    g: u8,
-    v: u8,
-    tanks: usize,
-    o: usize,
-) -> bool
-    requires { ⌜ (l < 8) × ((v < 16) × ((o < tanks) × (tanks ≤ 64))) ⌝ }
-    requires { ⌜ allBelow (entryBelow (now level) 16) tanks ≡ true ⌝ }
-    ensures { λ r. ⌜ r ≡ nearestIn (now (sets .entry)) (now (group .entry)) (now (level .entry)) l g v tanks o ⌝ }
-{
-    if !serves(sets, group, level, l, g, v, o) {
-        return false;
-    }
-    !any_between(sets, group, level, l, g, v, level[o], tanks)
-}
-
-// The choice from group g for level v, or 255 where no tank of it is at or under v. l is the lattice of the group's requirement.
-pub fn choose<'a>(
-    sets: &'a [u16; 128],
-    group: &'a [u8; 64],
-    level: &'a [u8; 64],
-    l: usize,
-    g: u8,
-    v: u8,
-    tanks: u8,
-) -> u8
-    requires { ⌜ (l < 8) × ((v < 16) × (tanks ≤ 64)) ⌝ }
-    requires { ⌜ allBelow (entryBelow (now level) 16) tanks ≡ true ⌝ }
-    ensures { λ r. ⌜ r ≡ choiceIn (now (sets .entry)) (now (group .entry)) (now (level .entry)) l g v tanks ⌝ }
-{
-    let mut o: u8 = 0;
+    let mut places = [0u16; 8];
+    let mut o: usize = 0;
     while o < tanks {
-        if is_nearest(sets, group, level, l, g, v, tanks as usize, o as usize) {
-            return o;
-        }
+        let g = group[o] as usize;
+        places[g] = with_level(places[g], level[o]);
         o += 1;
     }
-    255
+    places
+}
+
+// What lies above the levels of the set `these` in lattice l. It looks at all 16 levels and never leaves early, so that the loop has a fixed
+// length.
+fn above_in(sets: &[u16; 128], l: usize, these: u16) -> u16
+    requires { ⌜ l < 8 ⌝ }
+    ensures { λ r. ⌜ ((v : ℕ) → bit r v ≡ anyBelow (reachesIn (now (sets .entry)) l these v) 16) ⌝ }
+{
+    let mut all: u16 = 0;
+    let mut y: usize = 0;
+    while y < 16 {
+        all = with_set(all, these, y, sets[l * 16 + y]);
+        y += 1;
+    }
+    all
+}
+
+// The levels for which a tank at level x is nearest, in a group with tanks at `places`: those above x, and above no other level of the group
+// that is above x.
+fn nearest_for(sets: &[u16; 128], l: usize, places: u16, x: usize) -> u16
+    requires { ⌜ (l < 8) × (x < 16) ⌝ }
+    ensures { λ r. ⌜ ((v : ℕ) → bit r v ≡ underIn (now (sets .entry)) l x v && not (anyBelow (nearerIn (now (sets .entry)) l places x v) 16)) ⌝ }
+{
+    let own = sets[l * 16 + x];
+    let nearer = without_level(places & own, x);
+    let taken = above_in(sets, l, nearer);
+    without_set(own, taken)
+}
+
+// Tank o where level v is in the set `near`, and else what stood there before.
+fn tank_or(near: u16, v: usize, o: u8, before: u8) -> u8
+    requires { ⌜ v < 16 ⌝ }
+    ensures { λ r. ⌜ r ≡ cond (bit near v) o before ⌝ }
+{
+    if has(near, v) { o } else { before }
+}
+
+// Tank o goes to the entries of its group g for the levels of the set `near`. The loop has a fixed length, as above.
+fn put_choices(made: &mut [u8; 128], g: usize, near: u16, o: u8)
+    requires { ⌜ (g < 8) × (length (now made) ≡ 128) ⌝ }
+    ensures { λ r. ⌜ Put g near o (now (made .entry)) (now (made .exit)) ⌝ }
+{
+    let mut v: usize = 0;
+    while v < 16 {
+        let k = g * 16 + v;
+        made[k] = tank_or(near, v, o, made[k]);
+        v += 1;
+    }
+}
+
+// The choice from each group under each level, at g * 16 + v: 255 where no tank of the group is at or under the level. It goes from the
+// highest tank down, so that the lowest number is written last.
+pub fn make_choices<'a>(
+    sets: &'a [u16; 128],
+    group: &'a [u8; 64],
+    level: &'a [u8; 64],
+    lattice: &'a [u8; 8],
+    requirement: &'a [u8; 8],
+    made: &mut [u8; 128],
+    groups: u8,
+    tanks: u8,
+)
+    requires { ⌜ (groups ≤ 8) × (tanks ≤ 64) ⌝ }
+    requires { ⌜ allBelow (linkIn (now lattice) (now requirement)) groups ≡ true ⌝ }
+    requires { ⌜ (allBelow (entryBelow (now group) groups) tanks ≡ true) × (allBelow (entryBelow (now level) 16) tanks ≡ true) ⌝ }
+    ensures { λ r. ⌜ ChoicesIn (now (sets .entry)) (now (group .entry)) (now (level .entry)) (now (lattice .entry)) (now (requirement .entry)) groups tanks (now (made .exit)) ⌝ }
+{
+    let places = places_of(group, level, tanks as usize);
+    *made = [255u8; 128];
+    let mut o = tanks;
+    while 0 < o {
+        o = o - 1;
+        let g = group[o as usize] as usize;
+        let l = lattice[requirement[g] as usize] as usize;
+        let near = nearest_for(sets, l, places[g], level[o as usize] as usize);
+        put_choices(made, g, near, o);
+    }
 }

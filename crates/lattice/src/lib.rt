@@ -67,7 +67,7 @@ fn laid_out(s: &[u16; 16], n: usize) -> bool
 }
 
 // Level i is in the set x.
-fn has(x: u16, i: usize) -> bool
+pub fn has(x: u16, i: usize) -> bool
     requires { ⌜ i < 16 ⌝ }
     ensures { λ r. ⌜ r ≡ bit x i ⌝ }
 {
@@ -75,7 +75,7 @@ fn has(x: u16, i: usize) -> bool
 }
 
 // The set x joined to y, where level j is in the set `these`.
-fn with_set(y: u16, these: u16, j: usize, x: u16) -> u16
+pub fn with_set(y: u16, these: u16, j: usize, x: u16) -> u16
     requires { ⌜ j < 16 ⌝ }
     ensures { λ r. ⌜ r ≡ cond (bit these j) (bitOr y x) y ⌝ }
 {
