@@ -40,35 +40,35 @@ not-28 true b z h = cc
 not-28 false true z h = absurd (h refl)
 not-28 false false z h = refl
 
-module _ (sets group level lattice requirement rights levels : List ℕ) (tanks s t : ℕ) where
+module _ (found : ℕ → ℕ → ℕ) (requirement rights levels : List ℕ) (s t : ℕ) where
   -- what the loop knows when it comes to group g
   pub record RowSoFar (g number : ℕ) (row : List ℕ) : Type 0 where
     pub all-set : anyBelow (blankIn requirement rights levels s t) g ≡ false
-    pub answers : number ≡ first (rowTests sets group level lattice requirement rights levels tanks s t g)
-    pub chooses : row ≡ rowIn sets group level lattice requirement rights levels tanks s t g
+    pub answers : number ≡ first (rowTests found requirement rights levels s t g)
+    pub chooses : row ≡ rowIn found requirement rights levels s t g
 
   pub none-yet : {row : List ℕ} → row ≡ replicate 8 255 → RowSoFar 0 0 row
   unfolding anyBelow
   none-yet e = record { all-set = refl; answers = refl; chooses = e ∙ fill-none _ _ }
 
-module _ {sets group level lattice requirement rights levels : List ℕ} {tanks s t g number : ℕ} {row : List ℕ}
-    (v : RowSoFar sets group level lattice requirement rights levels tanks s t g number row) where
+module _ {found : ℕ → ℕ → ℕ} {requirement rights levels : List ℕ} {s t g number : ℕ} {row : List ℕ}
+    (v : RowSoFar found requirement rights levels s t g number row) where
   -- the row is empty from g on
   pub still-empty : g < 8 → getD row g 0 ≡ 255
   still-empty l = rw (v .chooses) (fill-past _ _ g g 0 (omega arith) ∙ getD-replicate 8 g 255 0 l)
 
-  pub all-seen : {groups : ℕ} → g ≤ groups → groups ≤ g → RowDone sets group level lattice requirement rights levels tanks s t groups number row
+  pub all-seen : {groups : ℕ} → g ≤ groups → groups ≤ g → RowDone found requirement rights levels s t groups number row
   all-seen a b = let e = le-antisymm a b in record { answers = rw (← e) (v .answers); chooses = λ z. rw (← e) (v .chooses) }
 
   -- n is the number of group g by itself
-  module _ {n : ℕ} {row′ : List ℕ} (d : GroupDone sets group level lattice requirement rights levels tanks s t g row n row′) where
+  module _ {n : ℕ} {row′ : List ℕ} (d : GroupDone found requirement rights levels s t g row n row′) where
     abbrev p : ℕ → Bool
     p = blankIn requirement rights levels s t
 
     abbrev q : ℕ → Bool
-    q = lackingIn sets group level lattice requirement rights levels tanks s t
+    q = lackingIn found requirement rights levels s t
 
-    pub ends-27 : {groups : ℕ} → g < groups → n ≡ 27 → RowDone sets group level lattice requirement rights levels tanks s t groups n row′
+    pub ends-27 : {groups : ℕ} → g < groups → n ≡ 27 → RowDone found requirement rights levels s t groups n row′
     ends-27 {groups} l h = record {
       answers = h ∙ sym (rw (any-yes groups p g l (is-27 (p g) (q g) (sym (d .answers) ∙ h))));
       chooses = λ z. absurd (omega (arith, z, h));
@@ -81,10 +81,10 @@ module _ {sets group level lattice requirement rights levels : List ℕ} {tanks 
       set-more : anyBelow p (g + 1) ≡ false
       set-more = any-more p g (v .all-set) is-set
 
-      row-more : row′ ≡ rowIn sets group level lattice requirement rights levels tanks s t (g + 1)
+      row-more : row′ ≡ rowIn found requirement rights levels s t (g + 1)
       row-more = d .chooses ∙ rw is-set (fill-next _ _ g (v .chooses) refl)
 
-      pub becomes-28 : {number′ : ℕ} → n ≡ 28 → number′ ≡ 28 → RowSoFar sets group level lattice requirement rights levels tanks s t (g + 1) number′ row′
+      pub becomes-28 : {number′ : ℕ} → n ≡ 28 → number′ ≡ 28 → RowSoFar found requirement rights levels s t (g + 1) number′ row′
       becomes-28 y e = record {
         all-set = set-more;
         answers = e ∙ sym (rw (set-more, any-yes (g + 1) q g (omega arith) (is-28 (p g) (q g) (sym (d .answers) ∙ y))));
@@ -97,5 +97,5 @@ module _ {sets group level lattice requirement rights levels : List ℕ} {tanks 
           let l = not-28 (p g) (q g) is-set (λ z. y (d .answers ∙ z)) in
           split (anyBelow q g) (λ k. rw (add-one, l, k)) (λ k. rw (add-one, l, k))
 
-      pub stays : {number′ : ℕ} → n ≢ 28 → number′ ≡ number → RowSoFar sets group level lattice requirement rights levels tanks s t (g + 1) number′ row′
+      pub stays : {number′ : ℕ} → n ≢ 28 → number′ ≡ number → RowSoFar found requirement rights levels s t (g + 1) number′ row′
       stays y e = record { all-set = set-more; answers = e ∙ v .answers ∙ rw (v .all-set, set-more, stays-so y); chooses = row-more }

@@ -22,6 +22,7 @@ use Rattle.choice.proofs.Search.{search-choice}
 use Rattle.rules.specs.declared.Monitor.{Monitor}
 use Rattle.rules.specs.Rules.{set, start, stop, gate, View, blankAt, blank, lacking, holds, conditions, refusal, granted, answer, pickFor}
 use Rattle.rules.specs.Record.{viewOf, levelAt, chosenAt, fillFrom, changed, stepped, intact}
+use Rattle.choice.specs.Table.{groupChoice}
 use Rattle.calls.specs.Work.{setNumber, setLevels, heldIn, gateAnswer, blankIn, pickIn, rowIn, lackingIn, startRow, startNumber, getRow, stopNumber, stopRunning, stopChosen}
 use Rattle.rules.proofs.Accepted.{start-ok}
 use Rattle.calls.proofs.Rows.{row-same}
@@ -104,7 +105,7 @@ module _ (m : Monitor) (i : intact (m .plant) m ≡ true) where
     blank-same = any-same (P .groups) (blankIn (P .requirement) (P .rights) (m .levels) s t) (blankAt P t wish) (λ g c. rw (level-is s t g a b c))
 
     -- the work's pick is the rules'
-    pick-same : (g : ℕ) → g < P .groups → pickIn (P .sets) (P .group) (P .level) (P .lattice) (P .requirement) (P .rights) (m .levels) (P .tanks) s t g ≡ pickFor P t wish g
+    pick-same : (g : ℕ) → g < P .groups → pickIn (groupChoice (P .sets) (P .group) (P .level) (P .lattice) (P .requirement) (P .tanks)) (P .requirement) (P .rights) (m .levels) s t g ≡ pickFor P t wish g
     unfolding pickFor wish
     pick-same g c =
         split (eqb (rightsOf P t g) 0)
@@ -112,25 +113,25 @@ module _ (m : Monitor) (i : intact (m .plant) m ≡ true) where
         (λ h. rw (lt-ltb g (P .groups) c, h) (ap (λ (v : ℕ). choiceIn (P .sets) (P .group) (P .level) (latticeOf P (requirementOf P g)) g v (P .tanks)) (sym (level-is s t g a b c)) ∙ search-choice P g ((vs s) .level t)))
 
     row : List ℕ
-    row = rowIn (P .sets) (P .group) (P .level) (P .lattice) (P .requirement) (P .rights) (m .levels) (P .tanks) s t (P .groups)
+    row = rowIn (groupChoice (P .sets) (P .group) (P .level) (P .lattice) (P .requirement) (P .tanks)) (P .requirement) (P .rights) (m .levels) s t (P .groups)
 
     row-at : (g : ℕ) → g < P .groups → getD row g 0 ≡ pickFor P t wish g
     unfolding row
     row-at g c =
-        fill-at (pickIn (P .sets) (P .group) (P .level) (P .lattice) (P .requirement) (P .rights) (m .levels) (P .tanks) s t) (replicate 8 255) (P .groups) g 0 (omega (arith, length-replicate {A = ℕ} 8 255, X .counts .groups-fit)) c
+        fill-at (pickIn (groupChoice (P .sets) (P .group) (P .level) (P .lattice) (P .requirement) (P .tanks)) (P .requirement) (P .rights) (m .levels) s t) (replicate 8 255) (P .groups) g 0 (omega (arith, length-replicate {A = ℕ} 8 255, X .counts .groups-fit)) c
         ∙ pick-same g c
 
     row-past : (g : ℕ) → g < 8 → P .groups ≤ g → getD row g 0 ≡ pickFor P t wish g
     unfolding row pickFor
     row-past g l c =
-        fill-past (pickIn (P .sets) (P .group) (P .level) (P .lattice) (P .requirement) (P .rights) (m .levels) (P .tanks) s t) (replicate 8 255) (P .groups) g 0 c
+        fill-past (pickIn (groupChoice (P .sets) (P .group) (P .level) (P .lattice) (P .requirement) (P .tanks)) (P .requirement) (P .rights) (m .levels) s t) (replicate 8 255) (P .groups) g 0 c
         ∙ getD-replicate 8 g 255 0 l ∙ sym (rw (le-ltb g (P .groups) c))
 
     row-is : (g : ℕ) → g < 8 → getRow row g ≡ pickFor P t wish g
     row-is g l = split (ltb g (P .groups)) (λ h. row-at g (ltb-true _ _ h)) (λ h. row-past g l (ltb-false _ _ h))
 
     -- a needed group has no tank exactly where the choice is 255
-    lacking-at : (g : ℕ) → g < P .groups → lackingIn (P .sets) (P .group) (P .level) (P .lattice) (P .requirement) (P .rights) (m .levels) (P .tanks) s t g ≡ needs P t g && not (served P g wish)
+    lacking-at : (g : ℕ) → g < P .groups → lackingIn (groupChoice (P .sets) (P .group) (P .level) (P .lattice) (P .requirement) (P .tanks)) (P .requirement) (P .rights) (m .levels) s t g ≡ needs P t g && not (served P g wish)
     unfolding pickFor
     lacking-at g c = rw (pick-same g c) (split (eqb (rightsOf P t g) 0) (λ h. rw h)
         (λ h. rw (lt-ltb g (P .groups) c, h)
@@ -138,9 +139,9 @@ module _ (m : Monitor) (i : intact (m .plant) m ≡ true) where
         (λ y. rw y (ne-eqb (choice P g wish) 255 (λ z. omega (arith, z, choice-is P X g c wish y .is-nearest .is-tank, X .counts .tanks-fit))))
         (λ y. rw y (eq-eqb (choice P g wish) 255 (choice-none P X g c wish y))))))
 
-    lacking-same : anyBelow (lackingIn (P .sets) (P .group) (P .level) (P .lattice) (P .requirement) (P .rights) (m .levels) (P .tanks) s t) (P .groups) ≡ lacking P t wish
+    lacking-same : anyBelow (lackingIn (groupChoice (P .sets) (P .group) (P .level) (P .lattice) (P .requirement) (P .tanks)) (P .requirement) (P .rights) (m .levels) s t) (P .groups) ≡ lacking P t wish
     unfolding lacking
-    lacking-same = any-same (P .groups) (lackingIn (P .sets) (P .group) (P .level) (P .lattice) (P .requirement) (P .rights) (m .levels) (P .tanks) s t) (λ g. needs P t g && not (served P g wish)) lacking-at
+    lacking-same = any-same (P .groups) (lackingIn (groupChoice (P .sets) (P .group) (P .level) (P .lattice) (P .requirement) (P .tanks)) (P .requirement) (P .rights) (m .levels) s t) (λ g. needs P t g && not (served P g wish)) lacking-at
 
   module _ (s t : ℕ) where
     abbrev number : ℕ

@@ -18,7 +18,8 @@ use Rattle.rules.specs.declared.Monitor.{Monitor}
 use Rattle.rules.specs.Intact.{IntactView}
 use Rattle.rules.specs.Record.{viewOf, levelAt, hasLevel, intact}
 use Rattle.rules.proofs.IntactWords.{intact-means}
-use Rattle.calls.specs.Work.{taskKnown, levelKnown, linkIn, wishKnown}
+use Rattle.choice.specs.Table.{linkIn}
+use Rattle.calls.specs.Work.{taskKnown, levelKnown, wishKnown}
 
 module _ (m : Monitor) (i : intact (m .plant) m ≡ true) where
   pub plant-sound : Sound (m .plant)
@@ -42,6 +43,9 @@ module _ (m : Monitor) (i : intact (m .plant) m ≡ true) where
   pub groups-there : allBelow (entryBelow (m .plant .group) 8) (m .plant .tanks) ≡ true
   groups-there = all-yes (m .plant .tanks) (entryBelow (m .plant .group) 8)
       (λ o l. lt-ltb (groupOf (m .plant) o) 8 (omega (arith, plant-valid .group-in o l, plant-valid .counts .groups-fit)))
+
+  pub groups-counted : allBelow (entryBelow (m .plant .group) (m .plant .groups)) (m .plant .tanks) ≡ true
+  groups-counted = all-yes (m .plant .tanks) (entryBelow (m .plant .group) (m .plant .groups)) (λ o l. lt-ltb (groupOf (m .plant) o) (m .plant .groups) (plant-valid .group-in o l))
 
   pub levels-there : allBelow (entryBelow (m .plant .level) 16) (m .plant .tanks) ≡ true
   levels-there = all-yes (m .plant .tanks) (entryBelow (m .plant .level) 16)

@@ -1,6 +1,6 @@
 -- What the work of each call does on the arrays that are lent to it. proofs/Meet has that on a record that passes test 20 this is what the rules say.
 use mathlib.Core.Path.{_≡_}
-use mathlib.Core.Logic.{_⊎_}
+use mathlib.Core.Logic.{_≢_}
 use Prim.Native.Nat.{ℕ, _+_, _*_, _<_}
 use mathlib.Core.Bool.{Bool, true, not, cond, _&&_, _||_}
 use mathlib.Core.List.{List, [], _∷_, _++_}
@@ -12,7 +12,7 @@ use Rattle.base.specs.Bits.{bit}
 use Rattle.base.specs.Chain.{Test, _gives_, first}
 use Rattle.base.specs.Fill.{fill}
 use Rattle.plant.specs.Checks.{entryBelow}
-use Rattle.choice.specs.Search.{choiceIn}
+use Rattle.choice.specs.Table.{linkIn, groupChoice, ChoicesIn}
 use Rattle.rules.specs.Rules.{Call}
 use Rattle.rules.specs.Rules as call
 use Rattle.rules.specs.Record.{levelAt, chosenAt, fillFrom}
@@ -68,24 +68,22 @@ gateBy group granted chosen skids tanks s o r =
 abbrev pub blankIn : List ℕ → List ℕ → List ℕ → ℕ → ℕ → ℕ → Bool
 blankIn requirement rights levels s t g = not (eqb (getD rights (t * 8 + g) 0) 0) && eqb (getD levels (levelAt s t (getD requirement g 0)) 0) 255
 
--- the choice from group g under level v of its requirement
-abbrev pub groupChoice : List ℕ → List ℕ → List ℕ → List ℕ → List ℕ → ℕ → ℕ → ℕ → ℕ
-groupChoice sets group level lattice requirement tanks g v = choiceIn sets group level (getD lattice (getD requirement g 0) 0) g v tanks
+-- A table of choices, which depend on the plant alone. It is made at the first start of a list: entry 0 is 254 before.
+abbrev pub madeAt : List ℕ → ℕ → ℕ → ℕ
+madeAt made g v = getD made (g * 16 + v) 0
 
--- Choices made before, which depend on the plant alone: the entry of a group and a level is the choice, or 254 where none was made yet.
-pub record Remembered (sets group level lattice requirement : List ℕ) (tanks : ℕ) (made : List ℕ) : Type 0 where
+pub record Remembered (sets group level lattice requirement : List ℕ) (groups tanks : ℕ) (made : List ℕ) : Type 0 where
   pub size : length made ≡ 128
-  pub right : (g v : ℕ) → g < 8 → v < 16 → (getD made (g * 16 + v) 0 ≡ 254) ⊎ (getD made (g * 16 + v) 0 ≡ groupChoice sets group level lattice requirement tanks g v)
+  pub right : getD made 0 0 ≢ 254 → ChoicesIn sets group level lattice requirement groups tanks made
 
--- the tank for group g, and the row of them; a group on which the task names no right gets none
-abbrev pub pickIn : List ℕ → List ℕ → List ℕ → List ℕ → List ℕ → List ℕ → List ℕ → ℕ → ℕ → ℕ → ℕ → ℕ
-pickIn sets group level lattice requirement rights levels tanks s t g =
-    cond (eqb (getD rights (t * 8 + g) 0) 0) 255
-    (groupChoice sets group level lattice requirement tanks g (getD levels (levelAt s t (getD requirement g 0)) 0))
+-- The tank for group g, and the row of them, where `found` says which tank a group has for a level. A group on which the task names no right
+-- gets none.
+abbrev pub pickIn : (ℕ → ℕ → ℕ) → List ℕ → List ℕ → List ℕ → ℕ → ℕ → ℕ → ℕ
+pickIn found requirement rights levels s t g =
+    cond (eqb (getD rights (t * 8 + g) 0) 0) 255 (found g (getD levels (levelAt s t (getD requirement g 0)) 0))
 
-abbrev pub rowIn : List ℕ → List ℕ → List ℕ → List ℕ → List ℕ → List ℕ → List ℕ → ℕ → ℕ → ℕ → ℕ → List ℕ
-rowIn sets group level lattice requirement rights levels tanks s t groups =
-    fill (pickIn sets group level lattice requirement rights levels tanks s t) (replicate 8 255) groups
+abbrev pub rowIn : (ℕ → ℕ → ℕ) → List ℕ → List ℕ → List ℕ → ℕ → ℕ → ℕ → List ℕ
+rowIn found requirement rights levels s t groups = fill (pickIn found requirement rights levels s t) (replicate 8 255) groups
 
 -- start's conditions: those that are asked before any group is looked at
 abbrev pub earlyTests : List ℕ → List ℕ → ℕ → ℕ → ℕ → ℕ → List Test
@@ -93,9 +91,9 @@ earlyTests may running skids tasks s t =
     leb skids s gives 21 ∷ leb tasks t gives 22 ∷ not (bit (getD may s 0) t) gives 25 ∷ not (eqb (getD running s 0) 255) gives 26 ∷ []
 
 -- and those of the groups: one that the task needs has no level (above), or no tank
-module _ (sets group level lattice requirement rights levels : List ℕ) (tanks s t : ℕ) where
+module _ (found : ℕ → ℕ → ℕ) (requirement rights levels : List ℕ) (s t : ℕ) where
   abbrev pub lackingIn : ℕ → Bool
-  lackingIn g = not (eqb (getD rights (t * 8 + g) 0) 0) && eqb (pickIn sets group level lattice requirement rights levels tanks s t g) 255
+  lackingIn g = not (eqb (getD rights (t * 8 + g) 0) 0) && eqb (pickIn found requirement rights levels s t g) 255
 
   -- 27 of any group comes before 28 of any
   abbrev pub rowTests : ℕ → List Test
@@ -104,12 +102,12 @@ module _ (sets group level lattice requirement rights levels : List ℕ) (tanks 
   -- what is found at one group, whose tank goes to the row
   pub record GroupDone (g : ℕ) (row : List ℕ) (number : ℕ) (row′ : List ℕ) : Type 0 where
     pub answers : number ≡ first (blankIn requirement rights levels s t g gives 27 ∷ lackingIn g gives 28 ∷ [])
-    pub chooses : row′ ≡ cond (blankIn requirement rights levels s t g) row (ListN.set row g (pickIn sets group level lattice requirement rights levels tanks s t g))
+    pub chooses : row′ ≡ cond (blankIn requirement rights levels s t g) row (ListN.set row g (pickIn found requirement rights levels s t g))
 
   -- what is found over all groups; nobody reads the row of a start that is refused
   pub record RowDone (groups number : ℕ) (row′ : List ℕ) : Type 0 where
     pub answers : number ≡ first (rowTests groups)
-    pub chooses : number ≡ 0 → row′ ≡ rowIn sets group level lattice requirement rights levels tanks s t groups
+    pub chooses : number ≡ 0 → row′ ≡ rowIn found requirement rights levels s t groups
 
 -- an entry of a row of choices
 abbrev pub getRow : List ℕ → ℕ → ℕ
@@ -128,20 +126,17 @@ stopChosen skids s chosen = cond (leb skids s) chosen (fillFrom chosen (s * 8) (
 abbrev pub stopGranted : ℕ → ℕ → List ℕ → List ℕ
 stopGranted skids s granted = cond (leb skids s) granted (fillFrom granted (s * 8) (getRow (replicate 8 0)) 8)
 
--- a group's requirement and its lattice are there, and the level that a skid has for it is unset or a level
-abbrev pub linkIn : List ℕ → List ℕ → ℕ → Bool
-linkIn lattice requirement g = ltb (getD requirement g 0) 8 && ltb (getD lattice (getD requirement g 0) 0) 8
-
+-- the level that a skid has for a group's requirement is unset or a level
 abbrev pub wishKnown : List ℕ → List ℕ → ℕ → ℕ → ℕ → Bool
 wishKnown requirement levels s t g = levelKnown levels s t (getD requirement g 0)
 
 -- start: the number, and what the running tasks and the choices then are
 module _ (sets group level lattice requirement rights may levels running chosen : List ℕ) (skids tasks groups tanks s t : ℕ) where
   abbrev pub startRow : List ℕ
-  startRow = rowIn sets group level lattice requirement rights levels tanks s t groups
+  startRow = rowIn (groupChoice sets group level lattice requirement tanks) requirement rights levels s t groups
 
   abbrev pub startNumber : ℕ
-  startNumber = first (earlyTests may running skids tasks s t ++ rowTests sets group level lattice requirement rights levels tanks s t groups)
+  startNumber = first (earlyTests may running skids tasks s t ++ rowTests (groupChoice sets group level lattice requirement tanks) requirement rights levels s t groups)
 
   pub record Started (number : ℕ) (running′ chosen′ : List ℕ) : Type 0 where
     pub answers : number ≡ startNumber
@@ -176,6 +171,7 @@ pub record Lent (lattice requirement group level levels running : List ℕ) (ski
   pub lattices-there : allBelow (entryBelow lattice 8) requirements ≡ true
   pub links-there : allBelow (linkIn lattice requirement) groups ≡ true
   pub groups-there : allBelow (entryBelow group 8) tanks ≡ true
+  pub groups-counted : allBelow (entryBelow group groups) tanks ≡ true
   pub levels-there : allBelow (entryBelow level 16) tanks ≡ true
   pub tasks-known : allBelow (taskKnown running) skids ≡ true
   pub wishes-known : (s t : ℕ) → s < skids → t < tasks → allBelow (wishKnown requirement levels s t) groups ≡ true

@@ -6,64 +6,61 @@ ghost use lib.ListN.{getD, replicate};
 ghost use Rattle.base.specs.Below.{allBelow};
 ghost use Rattle.base.specs.Chain.{first};
 ghost use Rattle.plant.specs.Checks.{entryBelow};
-ghost use Rattle.calls.specs.Work.{levelKnown, earlyTests, linkIn, wishKnown, GroupDone, RowDone, Started, groupChoice, Remembered, Granted};
+ghost use Rattle.choice.specs.Table.{linkIn, ChoicesIn};
+ghost use Rattle.calls.specs.Work.{levelKnown, earlyTests, wishKnown, madeAt, GroupDone, RowDone, Started, Remembered, Granted};
 use crate::grant_row;
 use crate::put_row;
 use crate::wide;
-use choice::choose;
+use choice::make_choices;
 
-// The choice from group g under level v, looked for once: `made` keeps the choices that were made before, and 254 where none was.
-fn choose_once<'a>(
+// The table of choices, where it is not made yet: whoever serves a list makes it at the first start.
+fn make_once<'a>(
     sets: &'a [u16; 128],
     group: &'a [u8; 64],
     level: &'a [u8; 64],
     lattice: &'a [u8; 8],
     requirement: &'a [u8; 8],
     made: &mut [u8; 128],
+    groups: u8,
     tanks: u8,
-    g: u8,
-    v: u8,
-) -> u8
-    requires { ⌜ (g < 8) × ((v < 16) × (tanks ≤ 64)) ⌝ }
-    requires { ⌜ (getD (now requirement) g 0 < 8) × (getD (now lattice) (getD (now requirement) g 0) 0 < 8) ⌝ }
-    requires { ⌜ allBelow (entryBelow (now level) 16) tanks ≡ true ⌝ }
-    requires { ⌜ Remembered (now sets) (now group) (now level) (now lattice) (now requirement) tanks (now made) ⌝ }
-    ensures { λ r. ⌜ (r ≡ groupChoice (now (sets .entry)) (now (group .entry)) (now (level .entry)) (now (lattice .entry)) (now (requirement .entry)) tanks g v) × Remembered (now (sets .entry)) (now (group .entry)) (now (level .entry)) (now (lattice .entry)) (now (requirement .entry)) tanks (now (made .exit)) ⌝ }
+)
+    requires { ⌜ (groups ≤ 8) × (tanks ≤ 64) ⌝ }
+    requires { ⌜ allBelow (linkIn (now lattice) (now requirement)) groups ≡ true ⌝ }
+    requires { ⌜ (allBelow (entryBelow (now group) groups) tanks ≡ true) × (allBelow (entryBelow (now level) 16) tanks ≡ true) ⌝ }
+    requires { ⌜ Remembered (now sets) (now group) (now level) (now lattice) (now requirement) groups tanks (now made) ⌝ }
+    ensures { λ r. ⌜ ChoicesIn (now (sets .entry)) (now (group .entry)) (now (level .entry)) (now (lattice .entry)) (now (requirement .entry)) groups tanks (now (made .exit)) ⌝ }
 {
-    let k = g as usize * 16 + v as usize;
-    let before = made[k];
-    if before != 254 {
-        return before;
+    if made[0] != 254 {
+        return;
     }
-    let l = wide(lattice[wide(requirement[g as usize])]);
-    let o = choose(sets, group, level, l, g, v, tanks);
-    made[k] = o;
-    o
+    make_choices(
+        sets,
+        group,
+        level,
+        lattice,
+        requirement,
+        made,
+        groups,
+        tanks,
+    );
 }
 
-// Group g of a start, and its own number: 27 where the task has a right there and the level is unset, 28 where no tank was found, else 0.
+// Group g of a start, and its own number: 27 where the task has a right there and the level is unset, 28 where the table has no tank, else 0.
 // The tank goes to `row`, which is empty at g: where the task has no right it stays so.
 fn choose_at<'a>(
-    sets: &'a [u16; 128],
-    group: &'a [u8; 64],
-    level: &'a [u8; 64],
-    lattice: &'a [u8; 8],
     requirement: &'a [u8; 8],
     rights: &'a [u8; 128],
     levels: &[u8; 1024],
-    made: &mut [u8; 128],
+    made: &[u8; 128],
     row: &mut [u8; 8],
-    tanks: u8,
     s: usize,
     t: usize,
     g: u8,
 ) -> u8
-    requires { ⌜ (s < 8) × ((t < 16) × ((g < 8) × (tanks ≤ 64))) ⌝ }
-    requires { ⌜ (getD (now requirement) g 0 < 8) × (getD (now lattice) (getD (now requirement) g 0) 0 < 8) ⌝ }
-    requires { ⌜ allBelow (entryBelow (now level) 16) tanks ≡ true ⌝ }
+    requires { ⌜ (s < 8) × ((t < 16) × (g < 8)) ⌝ }
+    requires { ⌜ getD (now requirement) g 0 < 8 ⌝ }
     requires { ⌜ (levelKnown (now levels) s t (getD (now requirement) g 0) ≡ true) × (getD (now row) g 0 ≡ 255) ⌝ }
-    requires { ⌜ Remembered (now sets) (now group) (now level) (now lattice) (now requirement) tanks (now made) ⌝ }
-    ensures { λ r. ⌜ (GroupDone (now (sets .entry)) (now (group .entry)) (now (level .entry)) (now (lattice .entry)) (now (requirement .entry)) (now (rights .entry)) (now (levels .entry)) tanks s t g (now (row .entry)) r (now (row .exit))) × Remembered (now (sets .entry)) (now (group .entry)) (now (level .entry)) (now (lattice .entry)) (now (requirement .entry)) tanks (now (made .exit)) ⌝ }
+    ensures { λ r. ⌜ GroupDone (madeAt (now (made .entry))) (now (requirement .entry)) (now (rights .entry)) (now (levels .entry)) s t g (now (row .entry)) r (now (row .exit)) ⌝ }
 {
     if rights[t * 8 + g as usize] == 0 {
         return 0;
@@ -73,7 +70,7 @@ fn choose_at<'a>(
     if v == 255 {
         return 27;
     }
-    let o = choose_once(sets, group, level, lattice, requirement, made, tanks, g, v);
+    let o = made[g as usize * 16 + wide(v)];
     row[g as usize] = o;
     if o == 255 {
         return 28;
@@ -83,45 +80,24 @@ fn choose_at<'a>(
 
 // The skid's row of choices for a task: 27, 28 or 0. 27 of any group comes before 28 of any, so that 27 alone ends the loop.
 fn choose_row<'a>(
-    sets: &'a [u16; 128],
-    group: &'a [u8; 64],
-    level: &'a [u8; 64],
-    lattice: &'a [u8; 8],
     requirement: &'a [u8; 8],
     rights: &'a [u8; 128],
     levels: &[u8; 1024],
-    made: &mut [u8; 128],
+    made: &[u8; 128],
     row: &mut [u8; 8],
-    tanks: u8,
     s: usize,
     t: usize,
     groups: u8,
 ) -> u8
-    requires { ⌜ (s < 8) × ((t < 16) × ((groups ≤ 8) × (tanks ≤ 64))) ⌝ }
-    requires { ⌜ allBelow (linkIn (now lattice) (now requirement)) groups ≡ true ⌝ }
-    requires { ⌜ allBelow (entryBelow (now level) 16) tanks ≡ true ⌝ }
+    requires { ⌜ (s < 8) × ((t < 16) × (groups ≤ 8)) ⌝ }
+    requires { ⌜ allBelow (entryBelow (now requirement) 8) groups ≡ true ⌝ }
     requires { ⌜ (allBelow (wishKnown (now requirement) (now levels) s t) groups ≡ true) × (now row ≡ replicate 8 255) ⌝ }
-    requires { ⌜ Remembered (now sets) (now group) (now level) (now lattice) (now requirement) tanks (now made) ⌝ }
-    ensures { λ r. ⌜ (RowDone (now (sets .entry)) (now (group .entry)) (now (level .entry)) (now (lattice .entry)) (now (requirement .entry)) (now (rights .entry)) (now (levels .entry)) tanks s t groups r (now (row .exit))) × Remembered (now (sets .entry)) (now (group .entry)) (now (level .entry)) (now (lattice .entry)) (now (requirement .entry)) tanks (now (made .exit)) ⌝ }
+    ensures { λ r. ⌜ RowDone (madeAt (now (made .entry))) (now (requirement .entry)) (now (rights .entry)) (now (levels .entry)) s t groups r (now (row .exit)) ⌝ }
 {
     let mut number: u8 = 0;
     let mut g: u8 = 0;
     while g < groups {
-        let own = choose_at(
-            sets,
-            group,
-            level,
-            lattice,
-            requirement,
-            rights,
-            levels,
-            made,
-            row,
-            tanks,
-            s,
-            t,
-            g,
-        );
+        let own = choose_at(requirement, rights, levels, made, row, s, t, g);
         if own == 27 {
             return own;
         }
@@ -176,28 +152,33 @@ pub fn start_at<'a>(
 ) -> u8
     requires { ⌜ (skids ≤ 8) × ((tasks ≤ 16) × ((groups ≤ 8) × (tanks ≤ 64))) ⌝ }
     requires { ⌜ allBelow (linkIn (now lattice) (now requirement)) groups ≡ true ⌝ }
-    requires { ⌜ allBelow (entryBelow (now level) 16) tanks ≡ true ⌝ }
-    requires { ⌜ Remembered (now sets) (now group) (now level) (now lattice) (now requirement) tanks (now made) ⌝ }
+    requires { ⌜ (allBelow (entryBelow (now group) groups) tanks ≡ true) × (allBelow (entryBelow (now level) 16) tanks ≡ true) ⌝ }
+    requires { ⌜ Remembered (now sets) (now group) (now level) (now lattice) (now requirement) groups tanks (now made) ⌝ }
     requires { ⌜ Granted (now rights) (now running) skids (now granted) ⌝ }
     requires { ⌜ (s < skids → t < tasks → allBelow (wishKnown (now requirement) (now levels) s t) groups ≡ true) ⌝ }
-    ensures { λ r. ⌜ (Started (now (sets .entry)) (now (group .entry)) (now (level .entry)) (now (lattice .entry)) (now (requirement .entry)) (now (rights .entry)) (now (may .entry)) (now (levels .entry)) (now (running .entry)) (now (chosen .entry)) skids tasks groups tanks s t r (now (running .exit)) (now (chosen .exit))) × (Remembered (now (sets .entry)) (now (group .entry)) (now (level .entry)) (now (lattice .entry)) (now (requirement .entry)) tanks (now (made .exit)) × Granted (now (rights .entry)) (now (running .exit)) skids (now (granted .exit))) ⌝ }
+    ensures { λ r. ⌜ (Started (now (sets .entry)) (now (group .entry)) (now (level .entry)) (now (lattice .entry)) (now (requirement .entry)) (now (rights .entry)) (now (may .entry)) (now (levels .entry)) (now (running .entry)) (now (chosen .entry)) skids tasks groups tanks s t r (now (running .exit)) (now (chosen .exit))) × (Remembered (now (sets .entry)) (now (group .entry)) (now (level .entry)) (now (lattice .entry)) (now (requirement .entry)) groups tanks (now (made .exit)) × Granted (now (rights .entry)) (now (running .exit)) skids (now (granted .exit))) ⌝ }
 {
     let early = start_early(may, running, skids, tasks, s, t);
     if early != 0 {
         return early;
     }
-    let mut row = [255u8; 8];
-    let number = choose_row(
+    make_once(
         sets,
         group,
         level,
         lattice,
         requirement,
+        made,
+        groups,
+        tanks,
+    );
+    let mut row = [255u8; 8];
+    let number = choose_row(
+        requirement,
         rights,
         levels,
         made,
         &mut row,
-        tanks,
         s as usize,
         t as usize,
         groups,

@@ -21,13 +21,13 @@ use Rattle.batch.proofs.serve.Statement.{statement}
 use Rattle.batch.proofs.serve.Tie as tie
 
 abbrev Inv-loop : tie.InvT-loop
-Inv-loop bytes n out₀ p levels₀ running₀ chosen₀ made₀ granted₀ i₀ out levels running chosen made granted i = (i ≤ n) × ((length out ≡ length out₀) × ((record { plant = p; levels = levels; running = running; chosen = chosen } ≡ ends (fresh p) (callsOf bytes i)) × ((out ≡ overlay out₀ 0 (runs (fresh p) (callsOf bytes i))) × (Remembered (p .sets) (p .group) (p .level) (p .lattice) (p .requirement) (p .tanks) made × Granted (p .rights) running (p .skids) granted))))
+Inv-loop bytes n out₀ p levels₀ running₀ chosen₀ made₀ granted₀ i₀ out levels running chosen made granted i = (i ≤ n) × ((length out ≡ length out₀) × ((record { plant = p; levels = levels; running = running; chosen = chosen } ≡ ends (fresh p) (callsOf bytes i)) × ((out ≡ overlay out₀ 0 (runs (fresh p) (callsOf bytes i))) × (Remembered (p .sets) (p .group) (p .level) (p .lattice) (p .requirement) (p .groups) (p .tanks) made × Granted (p .rights) running (p .skids) granted))))
 
 abbrev μ-loop : tie.MeasureT-loop
 μ-loop bytes n out₀ p levels₀ running₀ chosen₀ made₀ granted₀ i₀ out levels running chosen made granted i = n - i
 
 loop-holds : tie.Need-loop-holds Inv-loop μ-loop
-loop-holds c = let s = c .before .before in (omega arith, (refl, (first-record (s .args .t1) (s .args .bytes .now), (first-out (s .args .t1) (s .args .bytes .now) (s .args .out .now), (none-made _ _ _ _ _ _, none-granted (s .args .t1 .rights) (s .args .t1 .skids) (valid (s .args .t1) (sound-law (s .args .t1) .0 (s .pre .0)) .counts .skids-fit))))))
+loop-holds c = let s = c .before .before in (omega arith, (refl, (first-record (s .args .t1) (s .args .bytes .now), (first-out (s .args .t1) (s .args .bytes .now) (s .args .out .now), (none-made _ _ _ _ _ _ _, none-granted (s .args .t1 .rights) (s .args .t1 .skids) (valid (s .args .t1) (sound-law (s .args .t1) .0 (s .pre .0)) .counts .skids-fit))))))
 
 turn-requires : tie.Need-turn-requires Inv-loop μ-loop
 turn-requires c κs =

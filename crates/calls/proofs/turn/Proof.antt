@@ -45,7 +45,7 @@ start-at-requires c κs =
     let s = c .before .before .before .before .before .before .before .before in
     let n = s .pre .0 in
     let h = s .pre .1 .0 in
-    ((n .0, (n .1 .0, (n .1 .1 .1 .0, n .1 .1 .1 .1))), (h .links-there, (h .levels-there, (s .pre .1 .1 .0, (s .pre .1 .1 .1, h .wishes-known (s .args .a) (s .args .b))))))
+    ((n .0, (n .1 .0, (n .1 .1 .1 .0, n .1 .1 .1 .1))), (h .links-there, ((h .groups-counted, h .levels-there), (s .pre .1 .1 .0, (s .pre .1 .1 .1, h .wishes-known (s .args .a) (s .args .b))))))
 
 returns-4 : tie.Need-returns-4
 returns-4 c =

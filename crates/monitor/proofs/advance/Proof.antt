@@ -18,7 +18,7 @@ turn-requires c κs =
     let g = c .before .before .before .before .before .before .before .before .before .before .before .before .before .before in
     let s = g .before .before .before .before .before .before .before .before in
     let f = plant-valid (s .args .m) (s .pre) .counts in
-    ((f .skids-fit, (f .tasks-fit, (f .requirements-fit, (f .groups-fit, f .tanks-fit)))), (lent (s .args .m) (s .pre), (none-made _ _ _ _ _ _, g .grants-of .ensures)))
+    ((f .skids-fit, (f .tasks-fit, (f .requirements-fit, (f .groups-fit, f .tanks-fit)))), (lent (s .args .m) (s .pre), (none-made _ _ _ _ _ _ _, g .grants-of .ensures)))
 
 returns : tie.Need-returns
 returns c =
