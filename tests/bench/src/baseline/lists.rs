@@ -73,17 +73,24 @@ impl List<'_> {
     }
 
     /// Sets and gates are most of a list. Starts and stops stay functions of
-    /// their own, so that the loop has the registers for itself.
+    /// their own, so that the loop has the registers for itself. The kinds are
+    /// told by comparisons: a table of jumps, which a `match` on all of them
+    /// becomes, is foretold worse.
     #[inline(never)]
     fn serve(&mut self, requests: &[[u8; 5]], out: &mut [u8]) {
         let counts = Counts::of(&self.record.plant);
         for (answer, &[kind, a, b, c, d]) in out.iter_mut().zip(requests) {
-            *answer = match kind {
-                3 => self.gate(counts, a, b, c),
-                0 => self.set(counts, a, b, c, d),
-                1 => self.start(a, b),
-                2 => self.stop(a),
-                _ => 32,
+            *answer = if kind > 2 {
+                match kind {
+                    3 => self.gate(counts, a, b, c),
+                    _ => 32,
+                }
+            } else {
+                match kind {
+                    0 => self.set(counts, a, b, c, d),
+                    1 => self.start(a, b),
+                    _ => self.stop(a),
+                }
             };
         }
     }
