@@ -4,7 +4,7 @@ use mathlib.Core.Logic.{_≢_}
 use Prim.Native.Nat.{ℕ, _+_, _*_, _<_, _≤_}
 use native.Mathlib.Decide.{ℕ-discrete}
 use native.Mathlib.Omega.{arith}
-use mathlib.Core.Bool.{Bool, true, false, not, cond, _&&_}
+use mathlib.Core.Bool.{Bool, true, false, _&&_}
 use mathlib.Core.List.{List}
 use lib.Dec.{eqb, leb}
 use lib.ListN.{getD, length, set, replicate, getD-replicate, length-replicate, length-set}
@@ -12,7 +12,6 @@ use lib.Seq.{getD-set-same, getD-set-other}
 use borrow.Author.Tests.{eq-eqb, ne-eqb, leb-false}
 use Rattle.base.specs.Below.{allBelow}
 use Rattle.base.specs.Bits.{bit}
-use Rattle.base.specs.Chain.{_gives_, first}
 use Rattle.base.proofs.Bits.{zero-bit}
 use Rattle.base.proofs.Logic.{split}
 use Rattle.plant.specs.Checks.{entryBelow}

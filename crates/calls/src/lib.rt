@@ -133,13 +133,13 @@ pub fn is_held<'a, 'b>(
     chosen[s * 8 + g] == o
 }
 
-// The skid's eight choices: written whole, so that nothing stale is left.
-fn put_row(chosen: &mut [u8; 64], s: usize, row: [u8; 8])
+// A skid's row of eight, its choices or the rights granted to it: written whole, so that nothing stale is left.
+fn put_row(rows: &mut [u8; 64], s: usize, row: [u8; 8])
     requires { ⌜ s < 8 ⌝ }
-    ensures { λ r. ⌜ now (chosen .exit) ≡ fillFrom (now (chosen .entry)) (s * 8) (getRow row) 8 ⌝ }
+    ensures { λ r. ⌜ now (rows .exit) ≡ fillFrom (now (rows .entry)) (s * 8) (getRow row) 8 ⌝ }
 {
     for g in 0..8 {
-        chosen[s * 8 + g] = row[g];
+        rows[s * 8 + g] = row[g];
     }
 }
 

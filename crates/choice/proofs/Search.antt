@@ -1,4 +1,4 @@
--- The search over a plant's arrays finds the choice. Assumes nothing.
+-- The choice read from a plant's arrays is the choice. Assumes nothing.
 use mathlib.Core.Path.{_≡_, refl}
 use Prim.Native.Nat.{ℕ}
 use Rattle.plant.specs.declared.Plant.{Plant}

@@ -9,10 +9,10 @@ use Rattle.calls.proofs.put_row.Statement.{statement}
 use Rattle.calls.proofs.put_row.Tie as tie
 
 abbrev Inv-loop : tie.InvT-loop
-Inv-loop chosen₀ s row g₀ chosen g = (g ≤ 8) × (chosen ≡ fillFrom chosen₀ (s * 8) (getRow row) g)
+Inv-loop rows₀ s row g₀ rows-now g = (g ≤ 8) × (rows-now ≡ fillFrom rows₀ (s * 8) (getRow row) g)
 
 abbrev μ-loop : tie.MeasureT-loop
-μ-loop chosen₀ s row g₀ chosen g = 8 - g
+μ-loop rows₀ s row g₀ rows-now g = 8 - g
 
 pub put-row-spec : {M : Type 1} → statement M
 put-row-spec =

@@ -1,5 +1,5 @@
 -- `calls::start::choose_at` meets its contract: each step is the definition's. Assumes nothing.
-use mathlib.Core.Path.{_≡_, sym, ap, _∙_}
+use mathlib.Core.Path.{sym, ap, _∙_}
 use Prim.Native.Nat.{_<_}
 use native.Mathlib.Omega.{arith}
 use lib.ListN.{getD, set}
