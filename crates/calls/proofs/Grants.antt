@@ -4,7 +4,7 @@ use mathlib.Core.Logic.{_≢_}
 use Prim.Native.Nat.{ℕ, _+_, _*_, _<_, _≤_}
 use native.Mathlib.Decide.{ℕ-discrete}
 use native.Mathlib.Omega.{arith}
-use mathlib.Core.Bool.{Bool, true, false, _&&_}
+use mathlib.Core.Bool.{Bool, true, false, _&&_, and-false}
 use mathlib.Core.List.{List}
 use lib.Dec.{eqb, leb}
 use lib.ListN.{getD, length, set, replicate, getD-replicate, length-replicate, length-set}
@@ -18,14 +18,14 @@ use Rattle.plant.specs.Checks.{entryBelow}
 use Rattle.plant.proofs.Links.{entry-at}
 use Rattle.rules.specs.Record.{chosenAt, fillFrom}
 use Rattle.rules.proofs.Flat.{length-fillFrom, fillFrom-in, fillFrom-out}
-use Rattle.calls.specs.Work.{grantIn, Granted, rightsOf, getRow, stopRunning, stopGranted, heldIn, grantedIn, gateAnswer, gateBy}
+use Rattle.calls.specs.Work.{grantIn, Granted, rightsIn, getRow, stopRunning, stopGranted, heldIn, grantedIn, gateAnswer, gateBy}
 
 module _ (rights running : List ℕ) where
   -- a skid's row is its task's rights, or empty
-  pub of-task : (s t : ℕ) → getD running s 0 ≡ t → t ≢ 255 → (g : ℕ) → rightsOf rights t g ≡ grantIn rights running s g
+  of-task : (s t : ℕ) → getD running s 0 ≡ t → t ≢ 255 → (g : ℕ) → rightsIn rights t g ≡ grantIn rights running s g
   of-task s t e n g = sym (rw (e, ne-eqb t 255 n))
 
-  pub of-none : (s g : ℕ) → getD running s 0 ≡ 255 → 0 ≡ grantIn rights running s g
+  of-none : (s g : ℕ) → getD running s 0 ≡ 255 → 0 ≡ grantIn rights running s g
   of-none s g e = sym (rw (eq-eqb (getD running s 0) 255 e))
 
   -- the rows of the skids below n are made, those of the others are empty
@@ -34,8 +34,8 @@ module _ (rights running : List ℕ) where
     pub made : (s g : ℕ) → s < n → g < 8 → getD granted (chosenAt s g) 0 ≡ grantIn rights running s g
     pub rest : (s g : ℕ) → n ≤ s → s < 8 → g < 8 → getD granted (chosenAt s g) 0 ≡ 0
 
-  pub none-made : MadeBelow 0 (replicate 64 0)
-  none-made = record {
+  pub rows-none : MadeBelow 0 (replicate 64 0)
+  rows-none = record {
     size = length-replicate {A = ℕ} 64 0;
     made = λ s g l h. absurd (omega arith);
     rest = λ s g a b h. getD-replicate 64 (chosenAt s g) 0 0 (omega arith);
@@ -51,14 +51,14 @@ module _ (rights running : List ℕ) where
     rest = λ s g a b h. m .rest s g (omega arith) b h;
   }
 
-  pub task-next : {n : ℕ} {granted : List ℕ} → n < 8 → MadeBelow n granted → getD running n 0 ≢ 255 → MadeBelow (n + 1) (fillFrom granted (n * 8) (rightsOf rights (getD running n 0)) 8)
+  pub task-next : {n : ℕ} {granted : List ℕ} → n < 8 → MadeBelow n granted → getD running n 0 ≢ 255 → MadeBelow (n + 1) (fillFrom granted (n * 8) (rightsIn rights (getD running n 0)) 8)
   task-next {n} {granted} l m e = record {
-    size = length-fillFrom granted (n * 8) (rightsOf rights (getD running n 0)) 8 ∙ m .size;
+    size = length-fillFrom granted (n * 8) (rightsIn rights (getD running n 0)) 8 ∙ m .size;
     made = λ s g a h. elim (ℕ-discrete s n) [
-      | yes z ↦ rw z (fillFrom-in granted (n * 8) (rightsOf rights (getD running n 0)) 8 g (omega (arith, m .size)) h ∙ of-task n (getD running n 0) refl e g)
-      | no z ↦ fillFrom-out granted (n * 8) (rightsOf rights (getD running n 0)) 8 (chosenAt s g) (λ k b. omega arith) ∙ m .made s g (omega arith) h
+      | yes z ↦ rw z (fillFrom-in granted (n * 8) (rightsIn rights (getD running n 0)) 8 g (omega (arith, m .size)) h ∙ of-task n (getD running n 0) refl e g)
+      | no z ↦ fillFrom-out granted (n * 8) (rightsIn rights (getD running n 0)) 8 (chosenAt s g) (λ k b. omega arith) ∙ m .made s g (omega arith) h
     ];
-    rest = λ s g a b h. fillFrom-out granted (n * 8) (rightsOf rights (getD running n 0)) 8 (chosenAt s g) (λ k d. omega arith) ∙ m .rest s g (omega arith) b h;
+    rest = λ s g a b h. fillFrom-out granted (n * 8) (rightsIn rights (getD running n 0)) 8 (chosenAt s g) (λ k d. omega arith) ∙ m .rest s g (omega arith) b h;
   }
 
   pub all-made : {n skids : ℕ} {granted : List ℕ} → length running ≡ 8 → skids ≤ n → MadeBelow n granted → Granted rights running skids granted
@@ -80,10 +80,10 @@ module _ (rights running : List ℕ) {skids : ℕ} {granted : List ℕ} (s : ℕ
   now-runs : (t : ℕ) → getD (set running s t) s 0 ≡ t
   now-runs t = getD-set-same running s t 0 (omega (arith, G .tasks))
 
-  pub task-put : (t : ℕ) → t < 16 → Granted rights (set running s t) skids (fillFrom granted (s * 8) (rightsOf rights t) 8)
-  task-put t h = put-row rights running s t (rightsOf rights t) l G (λ g b. of-task rights (set running s t) s t (now-runs t) (λ z. omega arith) g)
+  pub task-put : (t : ℕ) → t < 16 → Granted rights (set running s t) skids (fillFrom granted (s * 8) (rightsIn rights t) 8)
+  task-put t h = put-row rights running s t (rightsIn rights t) l G (λ g b. of-task rights (set running s t) s t (now-runs t) (λ z. omega arith) g)
 
-  pub none-put : Granted rights (set running s 255) skids (fillFrom granted (s * 8) (getRow (replicate 8 0)) 8)
+  none-put : Granted rights (set running s 255) skids (fillFrom granted (s * 8) (getRow (replicate 8 0)) 8)
   none-put = put-row rights running s 255 (getRow (replicate 8 0)) l G (λ g b. getD-replicate 8 g 0 0 b ∙ of-none rights (set running s 255) s g (now-runs 255))
 
 -- the fresh monitor runs nothing
@@ -98,10 +98,6 @@ none-granted rights skids l = record {
 pub stop-granted : (rights running : List ℕ) {skids : ℕ} {granted : List ℕ} (s : ℕ) → skids ≤ 8 → Granted rights running skids granted → Granted rights (stopRunning skids s running) skids (stopGranted skids s granted)
 stop-granted rights running {skids} s l G = split (leb skids s) (λ e. rw e G) (λ e. rw e (none-put rights running s (omega (arith, leb-false skids s e)) G))
 
-and-none : (a : Bool) → a && false ≡ false
-and-none true = refl
-and-none false = refl
-
 and-swap : (a b : Bool) → a && b ≡ b && a
 and-swap true true = refl
 and-swap true false = refl
@@ -112,7 +108,7 @@ and-swap false false = refl
 module _ (group rights running chosen : List ℕ) {skids : ℕ} {granted : List ℕ} (tanks : ℕ) (G : Granted rights running skids granted) (there : allBelow (entryBelow group 8) tanks ≡ true) where
   same-held : (s o r : ℕ) → s < skids → o < tanks → grantedIn group granted chosen s o r ≡ heldIn group rights running chosen s o r
   same-held s o r a b = rw (G .right s (getD group o 0) a (entry-at group 8 tanks o there b))
-      (split (eqb (getD running s 0) 255) (λ e. rw (e, zero-bit r) (and-none (eqb (getD chosen (chosenAt s (getD group o 0)) 0) o))) (λ e. rw e (and-swap (eqb (getD chosen (chosenAt s (getD group o 0)) 0) o) (bit (getD rights (getD running s 0 * 8 + getD group o 0) 0) r))))
+      (split (eqb (getD running s 0) 255) (λ e. rw (e, zero-bit r) (and-false (eqb (getD chosen (chosenAt s (getD group o 0)) 0) o))) (λ e. rw e (and-swap (eqb (getD chosen (chosenAt s (getD group o 0)) 0) o) (bit (getD rights (getD running s 0 * 8 + getD group o 0) 0) r))))
 
   pub gate-by : (s o r : ℕ) → gateBy group granted chosen skids tanks s o r ≡ gateAnswer group rights running chosen skids tanks s o r
   gate-by s o r = split (leb skids s) (λ e. rw e)

@@ -38,40 +38,43 @@ heldIn group rights running chosen s o r =
     not (eqb (getD running s 0) 255)
     && (bit (getD rights (getD running s 0 * 8 + getD group o 0) 0) r && eqb (getD chosen (chosenAt s (getD group o 0)) 0) o)
 
+-- the answer, where it is known whether the skid holds the right
+abbrev pub gateNumber : ℕ → ℕ → ℕ → ℕ → ℕ → Bool → ℕ
+gateNumber skids tanks s o r held = first (leb skids s gives 21 ∷ leb tanks o gives 29 ∷ leb 3 r gives 30 ∷ not held gives 33 ∷ [])
+
 abbrev pub gateAnswer : List ℕ → List ℕ → List ℕ → List ℕ → ℕ → ℕ → ℕ → ℕ → ℕ → ℕ
-gateAnswer group rights running chosen skids tanks s o r =
-    first (leb skids s gives 21 ∷ leb tanks o gives 29 ∷ leb 3 r gives 30 ∷ not (heldIn group rights running chosen s o r) gives 33 ∷ [])
+gateAnswer group rights running chosen skids tanks s o r = gateNumber skids tanks s o r (heldIn group rights running chosen s o r)
 
--- the rights that the task which skid s runs names on group g, and none where it runs nothing
+-- the rights that task t names on group g
+abbrev pub rightsIn : List ℕ → ℕ → ℕ → ℕ
+rightsIn rights t g = getD rights (t * 8 + g) 0
+
+-- those of the task that skid s runs, and none where it runs nothing
 abbrev pub grantIn : List ℕ → List ℕ → ℕ → ℕ → ℕ
-grantIn rights running s g = cond (eqb (getD running s 0) 255) 0 (getD rights (getD running s 0 * 8 + g) 0)
+grantIn rights running s g = cond (eqb (getD running s 0) 255) 0 (rightsIn rights (getD running s 0) g)
 
--- These, kept beside the record so that a gate asks one entry: they follow from the running tasks, and each start and stop keeps them so.
+-- The rights of the running tasks, kept beside the record so that a gate asks one entry: each start and stop keeps them so.
 pub record Granted (rights running : List ℕ) (skids : ℕ) (granted : List ℕ) : Type 0 where
   pub tasks : length running ≡ 8
   pub size : length granted ≡ 64
   pub right : (s g : ℕ) → s < skids → g < 8 → getD granted (chosenAt s g) 0 ≡ grantIn rights running s g
-
--- the row of a task
-abbrev pub rightsOf : List ℕ → ℕ → ℕ → ℕ
-rightsOf rights t g = getD rights (t * 8 + g) 0
 
 -- the gate by them; proofs/Grants has that it is the same
 abbrev pub grantedIn : List ℕ → List ℕ → List ℕ → ℕ → ℕ → ℕ → Bool
 grantedIn group granted chosen s o r = eqb (getD chosen (chosenAt s (getD group o 0)) 0) o && bit (getD granted (chosenAt s (getD group o 0)) 0) r
 
 abbrev pub gateBy : List ℕ → List ℕ → List ℕ → ℕ → ℕ → ℕ → ℕ → ℕ → ℕ
-gateBy group granted chosen skids tanks s o r =
-    first (leb skids s gives 21 ∷ leb tanks o gives 29 ∷ leb 3 r gives 30 ∷ not (grantedIn group granted chosen s o r) gives 33 ∷ [])
+gateBy group granted chosen skids tanks s o r = gateNumber skids tanks s o r (grantedIn group granted chosen s o r)
 
 -- start: a group on which the task names a right has no level
 abbrev pub blankIn : List ℕ → List ℕ → List ℕ → ℕ → ℕ → ℕ → Bool
 blankIn requirement rights levels s t g = not (eqb (getD rights (t * 8 + g) 0) 0) && eqb (getD levels (levelAt s t (getD requirement g 0)) 0) 255
 
--- A table of choices, which depend on the plant alone. It is made at the first start of a list: entry 0 is 254 before.
+-- what a table of choices has for group g and level v
 abbrev pub madeAt : List ℕ → ℕ → ℕ → ℕ
 madeAt made g v = getD made (g * 16 + v) 0
 
+-- The table depends on the plant alone. It is made at the first start of a list: entry 0 is 254 before, which no choice is.
 pub record Remembered (sets group level lattice requirement : List ℕ) (groups tanks : ℕ) (made : List ℕ) : Type 0 where
   pub size : length made ≡ 128
   pub right : getD made 0 0 ≢ 254 → ChoicesIn sets group level lattice requirement groups tanks made

@@ -9,7 +9,7 @@ ghost use lib.ListN.{getD, length};
 ghost use Rattle.base.specs.Below.{allBelow};
 ghost use Rattle.plant.specs.Checks.{entryBelow};
 ghost use Rattle.rules.specs.Record.{fillFrom};
-ghost use Rattle.calls.specs.Work.{taskKnown, setNumber, setLevels, gateBy, grantedIn, Granted, rightsOf, stopGranted, Lent, Turned, heldIn, getRow, Remembered, stopNumber, stopRunning, stopChosen};
+ghost use Rattle.calls.specs.Work.{taskKnown, setNumber, setLevels, gateBy, grantedIn, Granted, rightsIn, stopGranted, Lent, Turned, heldIn, getRow, Remembered, stopNumber, stopRunning, stopChosen};
 use plant::Right;
 use start::start_at;
 
@@ -19,8 +19,8 @@ fn wide(x: u8) -> usize
     x as usize
 }
 
-// The number of the first item that is not there: 21 for the skid, or that of the second or the third. The three are tested at once before, so
-// that a call whose items are all there asks one question.
+// The number of the first item that is not there: 21 for the skid, or that of the second or the third. `skid` and `other` say that the skid and
+// the second are not; where both are, it is the third. The three are tested at once before, so that a call whose items are there asks once.
 fn missing(skid: bool, other: bool, second: u8, third: u8) -> u8
     ensures { λ r. ⌜ r ≡ cond skid 21 (cond other second third) ⌝ }
 {
@@ -89,7 +89,8 @@ fn gate_at<'a, 'b>(
     0
 }
 
-// Whether skid s holds right r on tank o, by the rights granted. Both halves are looked at, since nobody can foretell how a gate is answered.
+// Whether skid s holds right r on tank o, by the rights granted. Both halves are read without a branch, since the processor cannot predict the
+// answer.
 fn is_granted<'a, 'b>(
     group: &'a [u8; 64],
     granted: &'b [u8; 64],
@@ -143,10 +144,10 @@ fn put_row(rows: &mut [u8; 64], s: usize, row: [u8; 8])
     }
 }
 
-// The rights of a task, to the skid that runs it.
+// Gives a skid the rights of the task that it runs.
 fn grant_row<'a>(granted: &mut [u8; 64], rights: &'a [u8; 128], s: usize, t: usize)
     requires { ⌜ (s < 8) × (t < 16) ⌝ }
-    ensures { λ r. ⌜ now (granted .exit) ≡ fillFrom (now (granted .entry)) (s * 8) (rightsOf (now (rights .entry)) t) 8 ⌝ }
+    ensures { λ r. ⌜ now (granted .exit) ≡ fillFrom (now (granted .entry)) (s * 8) (rightsIn (now (rights .entry)) t) 8 ⌝ }
 {
     for g in 0..8 {
         granted[s * 8 + g] = rights[t * 8 + g];

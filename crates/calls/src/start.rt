@@ -13,7 +13,7 @@ use crate::put_row;
 use crate::wide;
 use choice::make_choices;
 
-// The table of choices, where it is not made yet: whoever serves a list makes it at the first start.
+// Makes the table of choices where it is not made yet, at the first start of a list: entry 0 is 254 until then, which no choice is.
 fn make_once<'a>(
     sets: &'a [u16; 128],
     group: &'a [u8; 64],

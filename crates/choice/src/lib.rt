@@ -51,7 +51,7 @@ fn places_of<'a>(group: &'a [u8; 64], level: &'a [u8; 64], tanks: usize) -> [u16
     places
 }
 
-// What lies above the levels of the set `these` in lattice l. It looks at all 16 levels and never leaves early, so that the loop has a fixed
+// What lies at or above a level of the set `these` in lattice l. It looks at all 16 levels and never leaves early, so that the loop has a fixed
 // length.
 fn above_in(sets: &[u16; 128], l: usize, these: u16) -> u16
     requires { ⌜ l < 8 ⌝ }
@@ -66,8 +66,8 @@ fn above_in(sets: &[u16; 128], l: usize, these: u16) -> u16
     all
 }
 
-// The levels for which a tank at level x is nearest, in a group with tanks at `places`: those above x, and above no other level of the group
-// that is above x.
+// The levels for which a tank at level x is nearest, in a group with tanks at `places`: those at or above x, and at or above no
+// other level of the group that is above x.
 fn nearest_for(sets: &[u16; 128], l: usize, places: u16, x: usize) -> u16
     requires { ⌜ (l < 8) × (x < 16) ⌝ }
     ensures { λ r. ⌜ ((v : ℕ) → bit r v ≡ underIn (now (sets .entry)) l x v && not (anyBelow (nearerIn (now (sets .entry)) l places x v) 16)) ⌝ }

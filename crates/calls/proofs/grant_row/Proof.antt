@@ -2,14 +2,14 @@
 use Prim.Native.Nat.{_*_, _≤_, _-_}
 use mathlib.Core.Path.{_≡_, refl}
 use Rattle.rules.specs.Record.{fillFrom}
-use Rattle.calls.specs.Work.{rightsOf}
+use Rattle.calls.specs.Work.{rightsIn}
 use Rattle.calls.proofs.Rows.{rows}
 use borrow.Author.Needs.{needs}
 use Rattle.calls.proofs.grant_row.Statement.{statement}
 use Rattle.calls.proofs.grant_row.Tie as tie
 
 abbrev Inv-loop : tie.InvT-loop
-Inv-loop granted₀ rights s t g₀ granted g = (g ≤ 8) × (granted ≡ fillFrom granted₀ (s * 8) (rightsOf rights t) g)
+Inv-loop granted₀ rights s t g₀ granted g = (g ≤ 8) × (granted ≡ fillFrom granted₀ (s * 8) (rightsIn rights t) g)
 
 abbrev μ-loop : tie.MeasureT-loop
 μ-loop granted₀ rights s t g₀ granted g = 8 - g

@@ -6,7 +6,7 @@ use native.Mathlib.Omega.{arith}
 use Rattle.base.proofs.Below.{all-at}
 use Rattle.calls.specs.Work.{taskKnown}
 use Rattle.calls.proofs.Known.{known}
-use Rattle.calls.proofs.Grants.{MadeBelow, none-made, idle-next, task-next, all-made}
+use Rattle.calls.proofs.Grants.{MadeBelow, rows-none, idle-next, task-next, all-made}
 use borrow.Author.Needs.{needs}
 use Rattle.calls.proofs.grants_of.Statement.{statement}
 use Rattle.calls.proofs.grants_of.Tie as tie
@@ -18,7 +18,7 @@ abbrev μ-loop : tie.MeasureT-loop
 μ-loop rights running skids granted₀ s₀ s-end granted s = s-end - s
 
 loop-holds : tie.Need-loop-holds Inv-loop μ-loop
-loop-holds c = (search needs, (refl, none-made _ _))
+loop-holds c = (search needs, (refl, rows-none _ _))
 
 grant-row-requires : tie.Need-grant-row-requires Inv-loop μ-loop
 grant-row-requires c κs =

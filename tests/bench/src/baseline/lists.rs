@@ -75,7 +75,7 @@ impl List<'_> {
     /// Sets and gates are most of a list. Starts and stops stay functions of
     /// their own, so that the loop has the registers for itself. The kinds are
     /// told by comparisons: a table of jumps, which a `match` on all of them
-    /// becomes, is foretold worse.
+    /// becomes, is predicted worse.
     #[inline(never)]
     fn serve(&mut self, requests: &[[u8; 5]], out: &mut [u8]) {
         let counts = Counts::of(&self.record.plant);
