@@ -1,40 +1,19 @@
 -- Sets of levels, as the code makes them: what each has at a level. Assumes nothing.
 use mathlib.Core.Path.{_≡_, refl, sym, ap, _∙_}
-use Prim.Native.Nat.{ℕ, _+_, _*_, _%_, _^_, _<_}
+use Prim.Native.Nat.{ℕ, _+_, _*_}
 use mathlib.Core.Bool.{Bool, true, false, cond, not, _&&_, _||_}
 use mathlib.Core.List.{List}
-use native.Mathlib.Nat.{one-mul}
 use native.Mathlib.Numerals.{add-one}
-use native.Mathlib.Omega.{arith}
 use lib.Bits.{bitAnd, bitOr, bitXor}
 use lib.Dec.{eqb}
 use lib.ListN.{getD}
-use lib.Pow.{shl-exact}
-use borrow.Author.Tests.{ne-eqb}
 use Rattle.base.specs.Below.{anyBelow}
 use Rattle.base.specs.Bits.{bit}
-use Rattle.base.proofs.Logic.{split, true-false}
-use Rattle.base.proofs.Bits.{zero-bit, and-bit, or-bit, xor-bit, power-bit, without-bit}
+use Rattle.base.proofs.Logic.{split}
+use Rattle.base.proofs.Bits.{zero-bit, and-bit, or-bit, xor-bit}
 use Rattle.base.proofs.Below.{any-same}
 use Rattle.choice.specs.Search.{underIn}
 use Rattle.choice.specs.Table.{reachesIn, nearerIn}
-
--- level i alone
-alone : (i : ℕ) → i < 16 → 1 * 2 ^ i % 65536 ≡ 2 ^ i
-alone i l = shl-exact 1 i 16 (let b : 1 < 2 ^ 1 = omega arith in b) (omega arith) ∙ one-mul (2 ^ i)
-
--- a set with level i, and without it
-module _ (x i : ℕ) (l : i < 16) (j : ℕ) where
-  pub with-level : bit (bitOr x (1 * 2 ^ i % 65536)) j ≡ bit x j || eqb i j
-  with-level = rw (alone i l) (or-bit x (2 ^ i) j ∙ ap (λ b. bit x j || b) (power-bit i j))
-
-  pub without-level : bit x i ≡ true → bit (bitXor x (1 * 2 ^ i % 65536)) j ≡ bit x j && not (eqb i j)
-  without-level h = rw (alone i l) (without-bit x i h j)
-
-  pub never-there : bit x i ≡ false → bit x j ≡ bit x j && not (eqb i j)
-  never-there h = split (bit x j)
-      (λ e. rw (e, ne-eqb i j (λ q. true-false (sym e ∙ ap (bit x) (sym q) ∙ h))))
-      (λ e. rw e)
 
 -- what is in x and not in y
 apart : (a b : Bool) → a && cond a (not b) b ≡ a && not b

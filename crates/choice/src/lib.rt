@@ -9,8 +9,9 @@ ghost use Rattle.base.specs.Bits.{bit};
 ghost use Rattle.plant.specs.Checks.{entryBelow};
 ghost use Rattle.choice.specs.Search.{underIn};
 ghost use Rattle.choice.specs.Table.{linkIn, ChoicesIn, standsIn, reachesIn, nearerIn, Put};
-use lattice::has;
+use lattice::byte_where;
 use lattice::with_set;
+use lattice::without_level;
 
 // The set x with level i.
 fn with_level(x: u16, i: u8) -> u16
@@ -18,14 +19,6 @@ fn with_level(x: u16, i: u8) -> u16
     ensures { λ r. ⌜ ((j : ℕ) → bit r j ≡ bit x j || eqb i j) ⌝ }
 {
     x | (1u16 << i)
-}
-
-// The set x without level i.
-fn without_level(x: u16, i: usize) -> u16
-    requires { ⌜ i < 16 ⌝ }
-    ensures { λ r. ⌜ ((j : ℕ) → bit r j ≡ bit x j && not (eqb i j)) ⌝ }
-{
-    if has(x, i) { x ^ (1u16 << i) } else { x }
 }
 
 // The levels of the set x that are not in y.
@@ -78,14 +71,6 @@ fn nearest_for(sets: &[u16; 128], l: usize, places: u16, x: usize) -> u16
     without_set(own, taken)
 }
 
-// Tank o where level v is in the set `near`, and else what stood there before.
-fn tank_or(near: u16, v: usize, o: u8, before: u8) -> u8
-    requires { ⌜ v < 16 ⌝ }
-    ensures { λ r. ⌜ r ≡ cond (bit near v) o before ⌝ }
-{
-    if has(near, v) { o } else { before }
-}
-
 // Tank o goes to the entries of its group g for the levels of the set `near`. The loop has a fixed length, as above.
 fn put_choices(made: &mut [u8; 128], g: usize, near: u16, o: u8)
     requires { ⌜ (g < 8) × (length (now made) ≡ 128) ⌝ }
@@ -94,7 +79,7 @@ fn put_choices(made: &mut [u8; 128], g: usize, near: u16, o: u8)
     let mut v: usize = 0;
     while v < 16 {
         let k = g * 16 + v;
-        made[k] = tank_or(near, v, o, made[k]);
+        made[k] = byte_where(near, v, o, made[k]);
         v += 1;
     }
 }

@@ -1,26 +1,24 @@
 -- A row of joins that is made level by level: each level above i is put where it is the join, and no two levels have one set. Assumes nothing.
-use mathlib.Core.Path.{_≡_, refl, sym, ap, subst, _∙_}
+use mathlib.Core.Path.{_≡_, refl, sym, ap, _∙_}
 use Prim.Native.Nat.{ℕ, suc, _≤_, _<_, _+_}
 use native.Mathlib.Numerals.{add-one}
 use native.Mathlib.Omega.{arith}
-use native.Mathlib.Decide.{decLt}
 use mathlib.Core.Bool.{Bool, true, false, cond}
 use mathlib.Core.List.{List}
 use lib.Bits.{bitAnd, and-zero-r}
-use lib.ListN.{length, getD, length-replicate, getD-replicate}
-use lib.Seq.{ext-getD}
+use lib.ListN.{getD}
 use borrow.Author.Tests.{eqb-true}
 use Rattle.base.specs.Below.{anyBelow, firstBelow}
 use Rattle.base.specs.Bits.{bit}
 use Rattle.base.specs.Fill.{fill}
 use Rattle.base.proofs.Logic.{split, true-false, and-true}
 use Rattle.base.proofs.Below.{any-none, first-none}
-use Rattle.base.proofs.Filled.{fill-at, fill-past, fill-length, fill-same, fill-again}
+use Rattle.base.proofs.Filled.{fill-at, fill-same, fill-again}
 use Rattle.base.proofs.Shared.{shared-at, zero-bits}
-use Rattle.lattice.specs.Levels.{joinOf}
 use Rattle.lattice.specs.Sets.{underIn, Sound, isSet, marked}
 use Rattle.lattice.specs.Table.{blank, joinRow}
 use Rattle.lattice.proofs.Sets.{join-found}
+use Rattle.lattice.proofs.Tables.{sixteen, room, row-is}
 
 -- the first index that passes, where only one can
 first-more : (none : ℕ) (p : ℕ → Bool) (k : ℕ) → (p k ≡ true → anyBelow p k ≡ false) → cond (p k) k (firstBelow none p k) ≡ firstBelow none p (suc k)
@@ -36,12 +34,6 @@ sharedBy s i j = isSet s (bitAnd (getD s i 0) (getD s j 0))
 -- row i once the levels below k were put
 abbrev pub rowTo : List ℕ → ℕ → ℕ → List ℕ
 rowTo s i k = fill (λ j. firstBelow 255 (sharedBy s i j) k) blank 16
-
-sixteen : length blank ≡ 16
-sixteen = length-replicate {A = ℕ} 16 255
-
-room : {m : ℕ} → m ≤ 16 → m ≤ length blank
-room l = rw sixteen l
 
 pub row-starts : (s : List ℕ) (i : ℕ) → blank ≡ rowTo s i 0
 unfolding fill firstBelow
@@ -88,14 +80,4 @@ module _ (n : ℕ) (s : List ℕ) (w : Sound n s) (i : ℕ) (p : i < n) where
       (λ q. q)))
 
   pub row-ends : rowTo s i n ≡ joinRow n (underIn s) i
-  row-ends =
-      let b : n ≤ 16 = w .clean .at-most-16 in
-      let long : length (rowTo s i n) ≡ 16 = fill-length _ blank 16 ∙ sixteen in
-      ext-getD 0 (rowTo s i n) (joinRow n (underIn s) i) (fill-length _ blank 16 ∙ sym (fill-length _ blank n))
-      (λ j l.
-      let m : j < 16 = subst (λ (y : ℕ). j < y) long l in
-      fill-at (λ j. firstBelow 255 (at j) n) blank 16 j 0 (room (omega arith)) m
-      ∙ elim (decLt j n) [
-        | yes q ↦ join-found n s w i j p q ∙ sym (fill-at (joinOf n (underIn s) i) blank n j 0 (room b) q)
-        | no q ↦ unused j (omega arith) m ∙ sym (fill-past (joinOf n (underIn s) i) blank n j 0 (omega arith) ∙ getD-replicate 16 j 255 0 m)
-      ])
+  row-ends = row-is n (underIn s) (w .clean .at-most-16) i (λ j. firstBelow 255 (at j) n) (λ j q. join-found n s w i j p q) unused

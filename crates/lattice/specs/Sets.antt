@@ -1,12 +1,11 @@
 -- What the code looks at in place of single bits: the sets of a lattice, each as one number.
 use mathlib.Core.Path.{_≡_}
-use Prim.Native.Nat.{ℕ, zero, suc, _+_, _*_, _/_, _%_, _^_, _<_, _≤_}
+use Prim.Native.Nat.{ℕ, _+_, _*_, _/_, _%_, _^_, _<_, _≤_}
 use mathlib.Core.Bool.{Bool, false, cond, not, _&&_, _||_}
 use mathlib.Core.List.{List}
 use lib.Dec.{eqb}
-use lib.Bits.{bitAnd, bitOr, bitXor}
+use lib.Bits.{bitAnd, bitOr}
 use lib.ListN.{getD, replicate}
-use Rattle.base.specs.Below.{allBelow, implies}
 use Rattle.base.specs.Bits.{bit}
 use Rattle.base.specs.Fill.{fill}
 use Rattle.base.specs.Gather.{gather}
@@ -39,26 +38,20 @@ comparable s i j = underIn s i j || underIn s j i
 abbrev pub strictly : List ℕ → ℕ → ℕ → Bool
 strictly s i j = underIn s i j && not (eqb i j)
 
--- what lies above j lies strictly above i, if j does
-abbrev pub passesOn : List ℕ → ℕ → ℕ → Bool
-passesOn s i j = implies (strictly s i j) (allBelow (λ k. implies (underIn s j k) (strictly s i k)) 16)
+-- x has, for each level, what lies strictly above it
+abbrev pub Strict : List ℕ → List ℕ → Type 0
+Strict s x = (i k : ℕ) → i < 16 → bit (getD x i 0) k ≡ strictly s i k
 
--- Level i is in order: it is under itself, and strictly under all that lies above a level that it is strictly under.
-abbrev pub rowOrdered : List ℕ → ℕ → Bool
-rowOrdered s i = underIn s i i && allBelow (passesOn s i) 16
+-- what lies above level j, whose set is x, added for each level that has j in `strict`
+abbrev pub raisedAt : List ℕ → ℕ → ℕ → List ℕ → ℕ → ℕ
+raisedAt strict j x further i = cond (bit (getD strict i 0) j) (bitOr (getD further i 0) x) (getD further i 0)
 
--- no set has a level from 16 on
-abbrev pub Narrow : List ℕ → Type 0
-Narrow s = (j k : ℕ) → j < 16 → 16 ≤ k → underIn s j k ≡ false
+abbrev pub raised : List ℕ → ℕ → ℕ → List ℕ → List ℕ
+raised strict j x further = fill (raisedAt strict j x further) further 16
 
--- set i without level i
-abbrev pub others : List ℕ → ℕ → ℕ
-others s i = bitXor (getD s i 0) (2 ^ i)
-
--- what lies above the levels of x that are below m: their sets together
-unfoldable pub above : List ℕ → ℕ → ℕ → ℕ
-above s x zero = 0
-above s x (suc m) = cond (bit x m) (bitOr (above s x m) (getD s m 0)) (above s x m)
+-- what lies further above level i lies strictly above it
+abbrev pub isWithin : List ℕ → List ℕ → ℕ → Bool
+isWithin further strict i = eqb (bitAnd (getD further i 0) (getD strict i 0)) (getD further i 0)
 
 -- set k is x
 abbrev pub isSet : List ℕ → ℕ → ℕ → Bool
@@ -80,6 +73,13 @@ addedAt t x i j = getD t j 0 + x / 2 ^ j % 2 * 2 ^ i
 
 abbrev pub added : List ℕ → ℕ → ℕ → List ℕ
 added t x i = fill (addedAt t x i) t 16
+
+-- The levels' numbers, and 255 from n on; and level i in their place where it is above the level.
+abbrev pub numbersTo : ℕ → List ℕ
+numbersTo n = fill (λ j. j) (replicate 16 255) n
+
+abbrev pub upperRow : List ℕ → List ℕ → ℕ → List ℕ
+upperRow s numbers i = fill (λ j. cond (underIn s j i) i (getD numbers j 0)) (replicate 16 255) 16
 
 -- Level k put in a row of joins at each level whose set shares with x what set k has.
 abbrev pub markedAt : List ℕ → ℕ → ℕ → List ℕ → ℕ → ℕ

@@ -1,14 +1,14 @@
 // Lattices of levels: the test that a lattice record is a lattice, by its table of joins and its table of meets.
 ghost use mathlib.Core.Path.{_≡_};
-ghost use mathlib.Core.Bool.{true, cond};
+ghost use mathlib.Core.Bool.{true, cond, not, _&&_};
 ghost use lib.Bits.{bitOr};
 ghost use lib.Dec.{eqb};
 ghost use lib.ListN.{getD};
 ghost use Prim.Native.Nat.{ℕ, _^_, _<_, _≤_};
 ghost use Rattle.base.specs.Below.{allBelow};
 ghost use Rattle.base.specs.Bits.{bit};
-ghost use Rattle.lattice.specs.Levels.{Layout, setClear, layout, ordered, joinOf, complete, refusal};
-ghost use Rattle.lattice.specs.Sets.{withSets, underIn, Sound, Turned, Narrow, comparable, rowOrdered, above, added, marked, turnedSets};
+ghost use Rattle.lattice.specs.Levels.{Layout, setClear, layout, ordered, complete, refusal};
+ghost use Rattle.lattice.specs.Sets.{withSets, underIn, Sound, Turned, Strict, raised, isWithin, added, turnedSets, numbersTo, upperRow, marked};
 ghost use Rattle.lattice.specs.Table.{joinRow, joinTable, rowFull, tableFull};
 
 // A lattice record: n levels, and bit j of sets[i] where level i is at or under level j.
@@ -16,9 +16,6 @@ pub struct Lattice {
     pub n: u8,
     pub sets: [u16; 16],
 }
-
-// The levels' numbers as bytes, so that a row is made of bytes alone.
-const NUMBERS: [u8; 16] = [0, 1, 2, 3, 4, 5, 6, 7, 8, 9, 10, 11, 12, 13, 14, 15];
 
 // A set may be shifted by 16, for n = 16, which its own width does not allow.
 fn wide(x: u16) -> u32
@@ -67,7 +64,7 @@ fn laid_out(s: &[u16; 16], n: usize) -> bool
 }
 
 // Level i is in the set x.
-pub fn has(x: u16, i: usize) -> bool
+fn has(x: u16, i: usize) -> bool
     requires { ⌜ i < 16 ⌝ }
     ensures { λ r. ⌜ r ≡ bit x i ⌝ }
 {
@@ -82,47 +79,77 @@ pub fn with_set(y: u16, these: u16, j: usize, x: u16) -> u16
     if has(these, j) { y | x } else { y }
 }
 
-// What lies above the levels of a set. It looks at all 16 levels and never leaves early, so that the loop has a fixed length; a level that is
-// not used is in no set.
-fn above_all(s: &[u16; 16], these: u16) -> u16
-    ensures { λ r. ⌜ r ≡ above (now (s .entry)) these 16 ⌝ }
+// The set x without level i.
+pub fn without_level(x: u16, i: usize) -> u16
+    requires { ⌜ i < 16 ⌝ }
+    ensures { λ r. ⌜ ((k : ℕ) → bit r k ≡ bit x k && not (eqb i k)) ⌝ }
 {
-    let mut all: u16 = 0;
-    let mut j: usize = 0;
-    while j < 16 {
-        all = with_set(all, these, j, s[j]);
-        j += 1;
-    }
-    all
+    if has(x, i) { x ^ (1u16 << i) } else { x }
 }
 
-// What lies above the levels strictly above i lies strictly above i: whole sets are compared, and not level by level.
-fn row_ordered(s: &[u16; 16], i: usize) -> bool
-    requires { ⌜ (i < 16) × Narrow (now s) ⌝ }
-    ensures { λ r. ⌜ r ≡ rowOrdered (now (s .entry)) i ⌝ }
+// The byte `yes` where level i is in the set x, and else `no`.
+pub fn byte_where(x: u16, i: usize, yes: u8, no: u8) -> u8
+    requires { ⌜ i < 16 ⌝ }
+    ensures { λ r. ⌜ r ≡ cond (bit x i) yes no ⌝ }
 {
-    let x = s[i];
-    if !has(x, i) {
-        return false;
-    }
-    let strictly = x ^ (1u16 << i);
-    let further = above_all(s, strictly);
-    further & strictly == further
+    if has(x, i) { yes } else { no }
 }
 
-// 8: the levels are in order.
-fn in_order(s: &[u16; 16], n: usize) -> bool
-    requires { ⌜ Layout (withSets n (now s)) ⌝ }
-    ensures { λ r. ⌜ r ≡ ordered n (underIn (now (s .entry))) ⌝ }
+// What lies strictly above each level.
+fn strict_sets(s: &[u16; 16]) -> [u16; 16]
+    ensures { λ r. ⌜ Strict (now (s .entry)) r ⌝ }
+{
+    let mut strict = [0u16; 16];
+    let mut i: usize = 0;
+    while i < 16 {
+        strict[i] = without_level(s[i], i);
+        i += 1;
+    }
+    strict
+}
+
+// Level j, whose set is x, lies strictly above the levels that have it in `strict`: what lies above it lies further above them.
+fn add_above(further: &mut [u16; 16], strict: &[u16; 16], j: usize, x: u16)
+    requires { ⌜ j < 16 ⌝ }
+    ensures { λ r. ⌜ now (further .exit) ≡ raised (now (strict .entry)) j x (now (further .entry)) ⌝ }
 {
     let mut i: usize = 0;
-    while i < n {
-        if !row_ordered(s, i) {
+    while i < 16 {
+        further[i] = with_set(further[i], strict[i], j, x);
+        i += 1;
+    }
+}
+
+fn all_within<'a>(further: &'a [u16; 16], strict: &'a [u16; 16]) -> bool
+    ensures { λ r. ⌜ r ≡ allBelow (isWithin (now (further .entry)) (now (strict .entry))) 16 ⌝ }
+{
+    let mut i: usize = 0;
+    while i < 16 {
+        if further[i] & strict[i] != further[i] {
             return false;
         }
         i += 1;
     }
     true
+}
+
+// 8: the levels are in order. Each is under itself, and what lies above the levels strictly above it lies strictly above it: whole sets are
+// compared, for all levels at once, and not level by level. A level that is not used is in no set.
+fn in_order(s: &[u16; 16], n: usize) -> bool
+    requires { ⌜ Layout (withSets n (now s)) ⌝ }
+    ensures { λ r. ⌜ r ≡ ordered n (underIn (now (s .entry))) ⌝ }
+{
+    let strict = strict_sets(s);
+    let mut further = [0u16; 16];
+    let mut j: usize = 0;
+    while j < n {
+        if !has(s[j], j) {
+            return false;
+        }
+        add_above(&mut further, &strict, j, s[j]);
+        j += 1;
+    }
+    all_within(&further, &strict)
 }
 
 // Level i, whose set is x, goes into the turned sets of the levels of x.
@@ -158,27 +185,30 @@ fn is_all(x: u16, n: usize) -> bool
     wide(x) + 1 == 1u32 << n
 }
 
-// The join of i and j where one is under the other: the upper one. The number of j comes as a byte too.
-fn upper(s: &[u16; 16], n: usize, i: usize, j: usize, other: u8) -> u8
-    requires { ⌜ Sound n (now s) × ((i < n) × (j < n)) ⌝ }
-    requires { ⌜ (comparable (now s) i j ≡ true) × (other ≡ j) ⌝ }
-    ensures { λ r. ⌜ r ≡ joinOf n (underIn (now (s .entry))) i j ⌝ }
+// The numbers of the levels as bytes, and 255 from n on.
+fn numbers_to(n: usize) -> [u8; 16]
+    requires { ⌜ n ≤ 16 ⌝ }
+    ensures { λ r. ⌜ r ≡ numbersTo n ⌝ }
 {
-    let own = i as u8;
-    if has(s[j], i) { own } else { other }
-}
-
-// Entries of a row from n on stay 255: they are of no pair of levels.
-fn upper_row(s: &[u16; 16], n: usize, i: usize) -> [u8; 16]
-    requires { ⌜ Sound n (now s) × (i < n) ⌝ }
-    requires { ⌜ allBelow (comparable (now s) i) n ≡ true ⌝ }
-    ensures { λ r. ⌜ r ≡ joinRow n (underIn (now (s .entry))) i ⌝ }
-{
-    let numbers = NUMBERS;
-    let mut row = [255u8; 16];
+    let mut numbers = [255u8; 16];
     let mut j: usize = 0;
     while j < n {
-        row[j] = upper(s, n, i, j, numbers[j]);
+        numbers[j] = j as u8;
+        j += 1;
+    }
+    numbers
+}
+
+// Level i where it is above level j, and else the number of j. The loop has a fixed length; a level that is not used is under none.
+fn upper_row<'a, 'b>(s: &'a [u16; 16], numbers: &'b [u8; 16], i: usize) -> [u8; 16]
+    requires { ⌜ i < 16 ⌝ }
+    ensures { λ r. ⌜ r ≡ upperRow (now (s .entry)) (now (numbers .entry)) i ⌝ }
+{
+    let own = i as u8;
+    let mut row = [255u8; 16];
+    let mut j: usize = 0;
+    while j < 16 {
+        row[j] = byte_where(s[j], i, own, numbers[j]);
         j += 1;
     }
     row
@@ -223,14 +253,21 @@ fn searched_row(s: &[u16; 16], n: usize, i: usize) -> [u8; 16]
     found
 }
 
-// Where each level is under level i or above it, which the sets of both orders show at once, the row wants no search.
-fn join_row<'a>(s: &'a [u16; 16], t: &'a [u16; 16], n: usize, i: usize) -> [u8; 16]
+// Where each level is under level i or above it, which the sets of both orders show at once, the join is the upper one and the row wants no
+// search.
+fn join_row<'a, 'b>(
+    s: &'a [u16; 16],
+    t: &'a [u16; 16],
+    numbers: &'b [u8; 16],
+    n: usize,
+    i: usize,
+) -> [u8; 16]
     requires { ⌜ Sound n (now s) × (i < n) ⌝ }
-    requires { ⌜ Turned n (now s) (now t) ⌝ }
+    requires { ⌜ Turned n (now s) (now t) × (now numbers ≡ numbersTo n) ⌝ }
     ensures { λ r. ⌜ r ≡ joinRow n (underIn (now (s .entry))) i ⌝ }
 {
     if is_all(s[i] | t[i], n) {
-        return upper_row(s, n, i);
+        return upper_row(s, numbers, i);
     }
     searched_row(s, n, i)
 }
@@ -241,11 +278,12 @@ fn joins<'a>(s: &'a [u16; 16], t: &'a [u16; 16], n: usize) -> [[u8; 16]; 16]
     requires { ⌜ Turned n (now s) (now t) ⌝ }
     ensures { λ r. ⌜ r ≡ joinTable n (underIn (now (s .entry))) ⌝ }
 {
+    let numbers = numbers_to(n);
     let row = [255u8; 16];
     let mut table = [row; 16];
     let mut i: usize = 0;
     while i < n {
-        table[i] = join_row(s, t, n, i);
+        table[i] = join_row(s, t, &numbers, n, i);
         i += 1;
     }
     table

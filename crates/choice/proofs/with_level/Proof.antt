@@ -1,6 +1,6 @@
 -- `choice::with_level` meets its contract. Assumes nothing.
 use borrow.Author.Needs.{needs}
-use Rattle.choice.proofs.Levels.{with-level}
+use Rattle.lattice.proofs.Single.{with-level}
 use Rattle.choice.proofs.with_level.Statement.{statement}
 use Rattle.choice.proofs.with_level.Tie as tie
 

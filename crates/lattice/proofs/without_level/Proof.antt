@@ -1,9 +1,9 @@
--- `choice::without_level` meets its contract. Assumes nothing.
+-- `lattice::without_level` meets its contract. Assumes nothing.
 use mathlib.Core.Path.{sym, _∙_}
 use borrow.Author.Needs.{needs}
-use Rattle.choice.proofs.Levels.{without-level, never-there}
-use Rattle.choice.proofs.without_level.Statement.{statement}
-use Rattle.choice.proofs.without_level.Tie as tie
+use Rattle.lattice.proofs.Single.{without-level, never-there}
+use Rattle.lattice.proofs.without_level.Statement.{statement}
+use Rattle.lattice.proofs.without_level.Tie as tie
 
 has-it : tie.Need-returns
 has-it c =
