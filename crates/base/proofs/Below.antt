@@ -1,13 +1,14 @@
 -- What the tests over the indexes below a bound say: each index, some index, the lowest index. Assumes nothing.
 use mathlib.Core.Path.{_≡_, refl, sym, ap, ap₂, _∙_}
-use Prim.Native.Nat.{ℕ, zero, suc, _≤_, _<_}
-use lib.Dec.{eqb}
-use borrow.Author.Tests.{eq-eqb, ne-eqb}
+use mathlib.Core.Logic.{_≢_}
+use Prim.Native.Nat.{ℕ, zero, suc, _+_, _≤_, _<_}
+use lib.Dec.{eqb, ltb}
+use borrow.Author.Tests.{eq-eqb, ne-eqb, ltb-true, lt-ltb, le-ltb}
 use native.Mathlib.Omega.{arith}
 use native.Mathlib.Decide.{ℕ-discrete, decLt}
 use mathlib.Core.Bool.{Bool, true, false, not, _&&_, _||_}
 use Rattle.base.specs.Below.{allBelow, anyBelow, firstBelow}
-use Rattle.base.proofs.Logic.{split, true-false, and-true, or-false, or-cases, or-left, or-right}
+use Rattle.base.proofs.Logic.{split, true-false, same-test, and-true, and-both, or-false, or-cases, or-left, or-right}
 
 pub all-yes : (n : ℕ) (p : ℕ → Bool) → ((i : ℕ) → i < n → p i ≡ true) → allBelow p n ≡ true
 unfolding allBelow
@@ -91,3 +92,19 @@ unfolding firstBelow
 first-same none zero p q h = refl
 first-same none (suc n) p q h =
     rw (any-same n p q (λ i l. h i (omega arith)), first-same none n p q (λ i l. h i (omega arith)), h n (omega arith))
+
+-- one of the first m that is below n
+pub any-upto : (m n : ℕ) (p : ℕ → Bool) → n ≤ m → anyBelow (λ k. ltb k n && p k) m ≡ anyBelow p n
+any-upto m n p b = same-test _ _
+    (λ e.
+    let s = any-some m (λ k. ltb k n && p k) e in
+    let t = and-true (ltb (s .0) n) (p (s .0)) (s .1 .1) in
+    any-yes n p (s .0) (ltb-true (s .0) n (t .0)) (t .1))
+    (λ e. let s = any-some n p e in any-yes m (λ k. ltb k n && p k) (s .0) (omega (arith, s .1 .0)) (and-both _ _ (lt-ltb (s .0) n (s .1 .0)) (s .1 .1)))
+
+-- an index is among the first n + 1 where it is among the first n, but for n itself
+pub next-but-own : (k n : ℕ) → k ≢ n → ltb k n ≡ ltb k (n + 1)
+next-but-own k n d = elim (decLt k n) [
+  | yes l ↦ rw (lt-ltb k n l, lt-ltb k (n + 1) (omega arith))
+  | no l ↦ rw (le-ltb k n (omega arith), le-ltb k (n + 1) (omega arith))
+]

@@ -6,7 +6,8 @@ use mathlib.Core.Logic.{⊎-elim}
 use native.Mathlib.Nat.{le-of-suc-le-suc, not-suc-le-zero, eq-or-lt-of-le, le-antisymm}
 use native.Mathlib.Numerals.{add-one}
 use native.Mathlib.Omega.{arith}
-use lib.ListN.{length, getD, set, length-set}
+use native.Mathlib.Decide.{decLt}
+use lib.ListN.{length, getD, set, replicate, length-set, length-replicate, getD-replicate}
 use lib.Seq.{getD-set-same, getD-set-other, ext-getD}
 use Rattle.base.specs.Fill.{fill}
 
@@ -61,5 +62,18 @@ module _ {A : Type 0} (d : A) (f g h : ℕ → A) (xs : List A) (n : ℕ) (e : l
       (λ k l.
       let b : k < n = subst (λ (m : ℕ). k < m) long l in
       fill-at f (fill g xs n) n k d room b ∙ q k b ∙ sym (fill-at h xs n k d (omega arith) b))
+
+-- A list of equal entries: filled to its end, with what it holds from n on, it is the list filled to n.
+pub fill-over : {A : Type 0} (d : A) (f h : ℕ → A) (m n : ℕ) → n ≤ m → ((k : ℕ) → k < n → f k ≡ h k) → ((k : ℕ) → n ≤ k → k < m → f k ≡ d) → fill f (replicate m d) m ≡ fill h (replicate m d) n
+fill-over {A} d f h m n b p q =
+    let long : length (replicate m d) ≡ m = length-replicate m d in
+    ext-getD d _ _ (fill-length f (replicate m d) m ∙ sym (fill-length h (replicate m d) n))
+    (λ k l.
+    let c : k < m = subst (λ (z : ℕ). k < z) (fill-length f (replicate m d) m ∙ long) l in
+    fill-at f (replicate m d) m k d (omega (arith, long)) c
+    ∙ elim (decLt k n) [
+      | yes r ↦ p k r ∙ sym (fill-at h (replicate m d) n k d (omega (arith, long)) r)
+      | no r ↦ q k (omega arith) c ∙ sym (fill-past h (replicate m d) n k d (omega arith) ∙ getD-replicate m k d d c)
+    ])
 
 pub ruleset filled = (fill-none, fill-next, fill-ends)

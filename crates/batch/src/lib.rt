@@ -42,6 +42,7 @@ pub fn serve(p: Plant, bytes: &[u8], n: usize, out: &mut [u8]) -> Parts
     let mut running = [255u8; 8];
     let mut chosen = [255u8; 64];
     let mut made = [254u8; 128];
+    let mut needs = [0u16; 16];
     let mut granted = [0u8; 64];
     for i in 0..n {
         let r = request_at(bytes, i);
@@ -58,6 +59,7 @@ pub fn serve(p: Plant, bytes: &[u8], n: usize, out: &mut [u8]) -> Parts
             &mut running,
             &mut chosen,
             &mut made,
+            &mut needs,
             &mut granted,
             p.skids,
             p.tasks,

@@ -1,21 +1,27 @@
--- A start's groups, one after the other: the first whose level is unset ends it with 27; one without a tank makes the number 28 and the next is
--- looked at all the same. Assumes nothing.
-use mathlib.Core.Path.{_≡_, refl, sym, _∙_}
+-- A start's groups, one after the other, in whatever order: one whose level is unset ends it with 27; one without a tank makes the number 28 and
+-- the next is looked at all the same. Assumes nothing.
+use mathlib.Core.Path.{_≡_, refl, sym, ap, _∙_}
 use mathlib.Core.Logic.{_≢_}
-use Prim.Native.Nat.{ℕ, _+_, _≤_, _<_}
-use native.Mathlib.Nat.{le-antisymm}
-use native.Mathlib.Numerals.{add-one}
+use Prim.Native.Nat.{ℕ, _^_, _<_}
 use native.Mathlib.Omega.{arith}
-use mathlib.Core.Bool.{Bool, true, false}
+use mathlib.Core.Bool.{Bool, true, false, cond, not, _&&_, and-false}
 use mathlib.Core.List.{List, [], _∷_}
-use lib.ListN.{getD, replicate, getD-replicate}
+use lib.Count.{trailingZeros}
+use lib.Dec.{eqb}
+use lib.ListN.{length, getD, set, replicate, length-replicate, getD-replicate, length-set}
+use lib.Seq.{getD-set-same, getD-set-other, ext-getD}
+use borrow.Author.Tests.{eqb-true, eqb-false, eq-eqb}
 use Rattle.base.specs.Below.{anyBelow}
+use Rattle.base.specs.Bits.{bit}
 use Rattle.base.specs.Chain.{_gives_, first}
-use Rattle.base.proofs.Logic.{split}
-use Rattle.base.proofs.Below.{any-yes}
-use Rattle.base.proofs.Scan.{any-more}
-use Rattle.base.proofs.Filled.{fill-none, fill-next, fill-past}
-use Rattle.calls.specs.Work.{blankIn, lackingIn, rowIn, rowTests, GroupDone, RowDone}
+use Rattle.base.specs.Fill.{fill}
+use Rattle.base.proofs.Logic.{split, true-false, and-true, and-both}
+use Rattle.base.proofs.Below.{any-yes, any-none, any-same}
+use Rattle.base.proofs.Bits.{zero-bit}
+use Rattle.base.proofs.Shared.{within-lt}
+use Rattle.base.proofs.Members.{lowest-in, without-less}
+use Rattle.base.proofs.Filled.{fill-at, fill-length}
+use Rattle.calls.specs.Work.{wishIn, foundIn, Reached, GroupDone, SetDone}
 
 -- a is that a level is unset, b that there is no tank
 abbrev numberOf : Bool → Bool → ℕ
@@ -40,62 +46,129 @@ not-28 true b z h = cc
 not-28 false true z h = absurd (h refl)
 not-28 false false z h = refl
 
-module _ (found : ℕ → ℕ → ℕ) (requirement rights levels : List ℕ) (s t : ℕ) where
-  -- what the loop knows when it comes to group g
-  pub record RowSoFar (g number : ℕ) (row : List ℕ) : Type 0 where
-    pub all-set : anyBelow (blankIn requirement rights levels s t) g ≡ false
-    pub answers : number ≡ first (rowTests found requirement rights levels s t g)
-    pub chooses : row ≡ rowIn found requirement rights levels s t g
+-- a group of the set is seen once it is not in the rest
+abbrev seen : ℕ → ℕ → ℕ → Bool
+seen need rest g = bit need g && not (bit rest g)
 
-  pub none-yet : {row : List ℕ} → row ≡ replicate 8 255 → RowSoFar 0 0 row
-  unfolding anyBelow
-  none-yet e = record { all-set = refl; answers = refl; chooses = e ∙ fill-none _ _ }
+none-seen : (b : Bool) → b && not b ≡ false
+none-seen true = refl
+none-seen false = refl
 
-module _ {found : ℕ → ℕ → ℕ} {requirement rights levels : List ℕ} {s t g number : ℕ} {row : List ℕ}
-    (v : RowSoFar found requirement rights levels s t g number row) where
-  -- the row is empty from g on
-  pub still-empty : g < 8 → getD row g 0 ≡ 255
-  still-empty l = rw (v .chooses) (fill-past _ _ g g 0 (omega arith) ∙ getD-replicate 8 g 255 0 l)
+all-of : (b : Bool) → b && true ≡ b
+all-of true = refl
+all-of false = refl
 
-  pub all-seen : {groups : ℕ} → g ≤ groups → groups ≤ g → RowDone found requirement rights levels s t groups number row
-  all-seen a b = let e = le-antisymm a b in record { answers = rw (← e) (v .answers); chooses = λ z. rw (← e) (v .chooses) }
+module _ (found : ℕ → ℕ → ℕ) (requirement levels : List ℕ) (s t need : ℕ) where
+  abbrev unset : ℕ → Bool
+  unset g = eqb (wishIn found requirement levels s t g) 255
 
-  -- n is the number of group g by itself
-  module _ {n : ℕ} {row′ : List ℕ} (d : GroupDone found requirement rights levels s t g row n row′) where
-    abbrev p : ℕ → Bool
-    p = blankIn requirement rights levels s t
+  abbrev got : ℕ → ℕ
+  got = foundIn found requirement levels s t
 
-    abbrev q : ℕ → Bool
-    q = lackingIn found requirement rights levels s t
+  abbrev lacks : ℕ → Bool
+  lacks g = eqb (got g) 255
 
-    pub ends-27 : {groups : ℕ} → g < groups → n ≡ 27 → RowDone found requirement rights levels s t groups n row′
-    ends-27 {groups} l h = record {
-      answers = h ∙ sym (rw (any-yes groups p g l (is-27 (p g) (q g) (sym (d .answers) ∙ h))));
-      chooses = λ z. absurd (omega (arith, z, h));
-    }
+  -- what the loop knows when `rest` is left of the set
+  pub record RowSoFar (rest number : ℕ) (row : List ℕ) : Type 0 where
+    pub part : (g : ℕ) → bit rest g ≡ true → bit need g ≡ true
+    pub all-set : (g : ℕ) → seen need rest g ≡ true → unset g ≡ false
+    pub answers : number ≡ cond (anyBelow (λ g. seen need rest g && lacks g) 8) 28 0
+    pub size : length row ≡ 8
+    pub chooses : (g : ℕ) → g < 8 → getD row g 0 ≡ cond (seen need rest g) (got g) 255
 
-    module _ (h : n ≢ 27) where
-      is-set : p g ≡ false
-      is-set = not-27 (p g) (q g) (λ z. h (d .answers ∙ z))
+  pub none-yet : {row : List ℕ} → row ≡ replicate 8 255 → RowSoFar need 0 row
+  none-yet e = record {
+    part = λ g h. h;
+    all-set = λ g h. absurd (let z : _≡_ {A = Bool} true false = sym h ∙ none-seen (bit need g) in true-false z);
+    answers = sym (rw (any-none 8 (λ g. seen need need g && lacks g) (λ g l. rw (none-seen (bit need g)))));
+    size = rw e (length-replicate {A = ℕ} 8 255);
+    chooses = λ g l. rw (e, none-seen (bit need g)) (getD-replicate {A = ℕ} 8 g 255 0 l);
+  }
 
-      set-more : anyBelow p (g + 1) ≡ false
-      set-more = any-more p g (v .all-set) is-set
+module _ {found : ℕ → ℕ → ℕ} {requirement levels : List ℕ} {s t need rest number : ℕ} {row : List ℕ}
+    (v : RowSoFar found requirement levels s t need rest number row) where
+  abbrev p : ℕ → Bool
+  p = unset found requirement levels s t need
 
-      row-more : row′ ≡ rowIn found requirement rights levels s t (g + 1)
-      row-more = d .chooses ∙ rw is-set (fill-next _ _ g (v .chooses) refl)
+  abbrev q : ℕ → Bool
+  q = lacks found requirement levels s t need
 
-      pub becomes-28 : {number′ : ℕ} → n ≡ 28 → number′ ≡ 28 → RowSoFar found requirement rights levels s t (g + 1) number′ row′
-      becomes-28 y e = record {
-        all-set = set-more;
-        answers = e ∙ sym (rw (set-more, any-yes (g + 1) q g (omega arith) (is-28 (p g) (q g) (sym (d .answers) ∙ y))));
-        chooses = row-more;
+  small : (x : ℕ) → Reached requirement levels s t need → ((g : ℕ) → bit x g ≡ true → bit need g ≡ true) → x < 2 ^ 16
+  small x r e =
+      let b : x < 256 = within-lt 8 x (λ i h. split (bit x i) (λ y. absurd (let l = r i (e i y) .0 in omega (arith, l))) (λ y. y)) in
+      omega (arith, b)
+
+  -- the lowest group of the rest
+  pub next-group : Reached requirement levels s t need → rest ≢ 0 → (trailingZeros 16 rest < 8) × (bit rest (trailingZeros 16 rest) ≡ true)
+  next-group r n =
+      let l = lowest-in 16 rest (omega (arith, n)) (small rest r (v .part)) in
+      (r (trailingZeros 16 rest) (v .part (trailingZeros 16 rest) (l .1)) .0, l .1)
+
+  pub all-seen : rest ≡ 0 → SetDone found requirement levels s t need number row
+  all-seen z =
+      let same : (g : ℕ) → seen need rest g ≡ bit need g = λ g. rw (z, zero-bit g) (all-of (bit need g)) in
+      record {
+        answers = v .answers ∙ rw (
+          any-same 8 (λ g. seen need rest g && q g) (λ g. bit need g && q g) (λ g l. rw (same g)),
+          any-none 8 (λ g. bit need g && p g) (λ g l. split (bit need g) (λ b. rw (b, v .all-set g (same g ∙ b))) (λ b. rw b)),
+        );
+        chooses = λ y. ext-getD 0 row (fill (λ g. cond (bit need g) (got found requirement levels s t need g) 255) (replicate 8 255) 8)
+            (v .size ∙ sym (fill-length _ (replicate 8 255) 8 ∙ length-replicate {A = ℕ} 8 255))
+            (λ g l.
+            let m : g < 8 = omega (arith, l, v .size) in
+            v .chooses g m ∙ rw (same g) (sym (fill-at (λ g. cond (bit need g) (got found requirement levels s t need g) 255) (replicate 8 255) 8 g 0 (omega (arith, length-replicate {A = ℕ} 8 255)) m)));
       }
 
-      stays-so : n ≢ 28 → anyBelow q g ≡ anyBelow q (g + 1)
-      unfolding anyBelow
-      stays-so y =
-          let l = not-28 (p g) (q g) is-set (λ z. y (d .answers ∙ z)) in
-          split (anyBelow q g) (λ k. rw (add-one, l, k)) (λ k. rw (add-one, l, k))
+  -- n is the number of group g by itself, which is in the rest, and `left` the rest without it
+  module _ (g left : ℕ) {n : ℕ} {row′ : List ℕ} (l : g < 8) (h : bit rest g ≡ true) (w : (j : ℕ) → bit left j ≡ bit rest j && not (eqb g j))
+      (d : GroupDone found requirement levels s t g row n row′) where
+    pub ends-27 : n ≡ 27 → SetDone found requirement levels s t need n row′
+    ends-27 e = record {
+      answers = e ∙ sym (rw (any-yes 8 (λ g. bit need g && p g) g l (and-both _ _ (v .part g h) (is-27 (p g) (q g) (sym (d .answers) ∙ e)))));
+      chooses = λ z. absurd (omega (arith, z, e));
+    }
 
-      pub stays : {number′ : ℕ} → n ≢ 28 → number′ ≡ number → RowSoFar found requirement rights levels s t (g + 1) number′ row′
-      stays y e = record { all-set = set-more; answers = e ∙ v .answers ∙ rw (v .all-set, set-more, stays-so y); chooses = row-more }
+    part-left : (j : ℕ) → bit left j ≡ true → bit need j ≡ true
+    part-left j b = v .part j (and-true (bit rest j) (not (eqb g j)) (sym (w j) ∙ b) .0)
+
+    pub goes-down : Reached requirement levels s t need → left < rest
+    goes-down r = without-less 16 rest left g (small left r part-left) h w
+
+    -- group g is seen now, and the others as before
+    seen-own : seen need left g ≡ true
+    seen-own = rw (w g, h, v .part g h, eq-eqb g g refl)
+
+    seen-other : (j : ℕ) → eqb g j ≡ false → seen need left j ≡ seen need rest j
+    seen-other j z = rw (w j, z, all-of (bit rest j))
+
+    module _ (e : n ≢ 27) where
+      is-set : p g ≡ false
+      is-set = not-27 (p g) (q g) (λ z. e (d .answers ∙ z))
+
+      placed : row′ ≡ set row g (got found requirement levels s t need g)
+      placed = d .chooses ∙ rw is-set
+
+      -- whatever the number is: it is right where it is said which groups lack a tank
+      go-on : {number′ : ℕ} → number′ ≡ cond (anyBelow (λ j. seen need left j && q j) 8) 28 0 → RowSoFar found requirement levels s t need left number′ row′
+      go-on a = record {
+        part = part-left;
+        all-set = λ j b. split (eqb g j)
+            (λ z. rw (← eqb-true g j z) is-set)
+            (λ z. v .all-set j (sym (seen-other j z) ∙ b));
+        answers = a;
+        size = rw placed (simp length-set (v .size));
+        chooses = λ j m. split (eqb g j)
+            (λ z. rw (placed, ← eqb-true g j z, seen-own) (getD-set-same row g (got found requirement levels s t need g) 0 (omega (arith, l, v .size))))
+            (λ z. rw (placed, seen-other j z) (getD-set-other row g j (got found requirement levels s t need g) 0 (λ e. eqb-false g j z (sym e)) ∙ v .chooses j m));
+      }
+
+      pub becomes-28 : {number′ : ℕ} → n ≡ 28 → number′ ≡ 28 → RowSoFar found requirement levels s t need left number′ row′
+      becomes-28 y a = go-on (a ∙ sym (rw (any-yes 8 (λ j. seen need left j && q j) g l (and-both _ _ seen-own (is-28 (p g) (q g) (sym (d .answers) ∙ y))))))
+
+      pub stays : {number′ : ℕ} → n ≢ 28 → number′ ≡ number → RowSoFar found requirement levels s t need left number′ row′
+      stays y a =
+          let own : q g ≡ false = not-28 (p g) (q g) is-set (λ z. y (d .answers ∙ z)) in
+          go-on (a ∙ v .answers ∙ ap (λ b. cond b 28 0) (any-same 8 (λ j. seen need rest j && q j) (λ j. seen need left j && q j)
+          (λ j m. split (eqb g j)
+          (λ z. rw (← eqb-true g j z, own) (and-false (seen need rest g) ∙ sym (and-false (seen need left g))))
+          (λ z. rw (seen-other j z)))))

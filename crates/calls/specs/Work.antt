@@ -75,9 +75,23 @@ abbrev pub madeAt : List ℕ → ℕ → ℕ → ℕ
 madeAt made g v = getD made (g * 16 + v) 0
 
 -- The table depends on the plant alone. It is made at the first start of a list: entry 0 is 254 before, which no choice is.
-pub record Remembered (sets group level lattice requirement : List ℕ) (groups tanks : ℕ) (made : List ℕ) : Type 0 where
+pub record Tabled (sets group level lattice requirement : List ℕ) (groups tanks : ℕ) (made : List ℕ) : Type 0 where
   pub size : length made ≡ 128
   pub right : getD made 0 0 ≢ 254 → ChoicesIn sets group level lattice requirement groups tanks made
+
+-- the groups on which task t names a right, as a set
+abbrev pub NeedIn : List ℕ → ℕ → ℕ → ℕ → Type 0
+NeedIn rights t groups need = (g : ℕ) → bit need g ≡ ltb g groups && not (eqb (getD rights (t * 8 + g) 0) 0)
+
+-- The sets of all tasks. Each is made at the first start of its task in a list, and is empty before.
+pub record Needed (rights : List ℕ) (groups : ℕ) (needs : List ℕ) : Type 0 where
+  pub size : length needs ≡ 16
+  pub right : (t : ℕ) → t < 16 → getD needs t 0 ≢ 0 → NeedIn rights t groups (getD needs t 0)
+
+-- what a list remembers from one request to the next
+pub record Remembered (sets group level lattice requirement rights : List ℕ) (groups tanks : ℕ) (made needs : List ℕ) : Type 0 where
+  pub table : Tabled sets group level lattice requirement groups tanks made
+  pub tasks : Needed rights groups needs
 
 -- The tank for group g, and the row of them, where `found` says which tank a group has for a level. A group on which the task names no right
 -- gets none.
@@ -102,15 +116,33 @@ module _ (found : ℕ → ℕ → ℕ) (requirement rights levels : List ℕ) (s
   abbrev pub rowTests : ℕ → List Test
   rowTests groups = anyBelow (blankIn requirement rights levels s t) groups gives 27 ∷ anyBelow lackingIn groups gives 28 ∷ []
 
-  -- what is found at one group, whose tank goes to the row
-  pub record GroupDone (g : ℕ) (row : List ℕ) (number : ℕ) (row′ : List ℕ) : Type 0 where
-    pub answers : number ≡ first (blankIn requirement rights levels s t g gives 27 ∷ lackingIn g gives 28 ∷ [])
-    pub chooses : row′ ≡ cond (blankIn requirement rights levels s t g) row (ListN.set row g (pickIn found requirement rights levels s t g))
-
   -- what is found over all groups; nobody reads the row of a start that is refused
   pub record RowDone (groups number : ℕ) (row′ : List ℕ) : Type 0 where
     pub answers : number ≡ first (rowTests groups)
     pub chooses : number ≡ 0 → row′ ≡ rowIn found requirement rights levels s t groups
+
+-- the same by the set of the groups that the task needs
+module _ (found : ℕ → ℕ → ℕ) (requirement levels : List ℕ) (s t : ℕ) where
+  -- the level that the skid has for the requirement of group g, and the tank that is found for it
+  abbrev pub wishIn : ℕ → ℕ
+  wishIn g = getD levels (levelAt s t (getD requirement g 0)) 0
+
+  abbrev pub foundIn : ℕ → ℕ
+  foundIn g = found g (wishIn g)
+
+  -- what is found at one group, whose tank goes to the row
+  pub record GroupDone (g : ℕ) (row : List ℕ) (number : ℕ) (row′ : List ℕ) : Type 0 where
+    pub answers : number ≡ first (eqb (wishIn g) 255 gives 27 ∷ eqb (foundIn g) 255 gives 28 ∷ [])
+    pub chooses : row′ ≡ cond (eqb (wishIn g) 255) row (ListN.set row g (foundIn g))
+
+  -- and over the groups of the set `need`
+  pub record SetDone (need number : ℕ) (row′ : List ℕ) : Type 0 where
+    pub answers : number ≡ first (anyBelow (λ g. bit need g && eqb (wishIn g) 255) 8 gives 27 ∷ anyBelow (λ g. bit need g && eqb (foundIn g) 255) 8 gives 28 ∷ [])
+    pub chooses : number ≡ 0 → row′ ≡ fill (λ g. cond (bit need g) (foundIn g) 255) (replicate 8 255) 8
+
+-- each group of the set is there, and its level is unset or a level
+abbrev pub Reached : List ℕ → List ℕ → ℕ → ℕ → ℕ → Type 0
+Reached requirement levels s t need = (g : ℕ) → bit need g ≡ true → (g < 8) × ((getD requirement g 0 < 8) × (levelKnown levels s t (getD requirement g 0) ≡ true))
 
 -- an entry of a row of choices
 abbrev pub getRow : List ℕ → ℕ → ℕ

@@ -190,8 +190,8 @@ fn stop_at(
     0
 }
 
-// One request of any kind: 0 set, 1 start, 2 stop, 3 gate, and 32 for another. `made` has the table of choices, once a start
-// made it, and `granted` the rights of the running tasks.
+// One request of any kind: 0 set, 1 start, 2 stop, 3 gate, and 32 for another. `made` has the table of choices and `needs` the groups of each
+// task, once a start made them, and `granted` the rights of the running tasks.
 pub fn turn<'a>(
     sizes: &'a [u8; 8],
     sets: &'a [u16; 128],
@@ -205,6 +205,7 @@ pub fn turn<'a>(
     running: &mut [u8; 8],
     chosen: &mut [u8; 64],
     made: &mut [u8; 128],
+    needs: &mut [u16; 16],
     granted: &mut [u8; 64],
     skids: u8,
     tasks: u8,
@@ -219,9 +220,9 @@ pub fn turn<'a>(
 ) -> u8
     requires { ⌜ (skids ≤ 8) × ((tasks ≤ 16) × ((requirements ≤ 8) × ((groups ≤ 8) × (tanks ≤ 64)))) ⌝ }
     requires { ⌜ Lent (now lattice) (now requirement) (now group) (now level) (now levels) (now running) skids tasks requirements groups tanks ⌝ }
-    requires { ⌜ Remembered (now sets) (now group) (now level) (now lattice) (now requirement) groups tanks (now made) ⌝ }
+    requires { ⌜ Remembered (now sets) (now group) (now level) (now lattice) (now requirement) (now rights) groups tanks (now made) (now needs) ⌝ }
     requires { ⌜ Granted (now rights) (now running) skids (now granted) ⌝ }
-    ensures { λ r. ⌜ (Turned (now (sizes .entry)) (now (sets .entry)) (now (lattice .entry)) (now (requirement .entry)) (now (group .entry)) (now (level .entry)) (now (rights .entry)) (now (may .entry)) (now (levels .entry)) (now (running .entry)) (now (chosen .entry)) skids tasks requirements groups tanks kind a b c d r (now (levels .exit)) (now (running .exit)) (now (chosen .exit))) × (Remembered (now (sets .entry)) (now (group .entry)) (now (level .entry)) (now (lattice .entry)) (now (requirement .entry)) groups tanks (now (made .exit)) × Granted (now (rights .entry)) (now (running .exit)) skids (now (granted .exit))) ⌝ }
+    ensures { λ r. ⌜ (Turned (now (sizes .entry)) (now (sets .entry)) (now (lattice .entry)) (now (requirement .entry)) (now (group .entry)) (now (level .entry)) (now (rights .entry)) (now (may .entry)) (now (levels .entry)) (now (running .entry)) (now (chosen .entry)) skids tasks requirements groups tanks kind a b c d r (now (levels .exit)) (now (running .exit)) (now (chosen .exit))) × (Remembered (now (sets .entry)) (now (group .entry)) (now (level .entry)) (now (lattice .entry)) (now (requirement .entry)) (now (rights .entry)) groups tanks (now (made .exit)) (now (needs .exit)) × Granted (now (rights .entry)) (now (running .exit)) skids (now (granted .exit))) ⌝ }
 {
     if 2 < kind {
         if kind == 3 {
@@ -256,6 +257,7 @@ pub fn turn<'a>(
             running,
             chosen,
             made,
+            needs,
             granted,
             skids,
             tasks,

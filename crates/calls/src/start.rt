@@ -7,11 +7,13 @@ ghost use Rattle.base.specs.Below.{allBelow};
 ghost use Rattle.base.specs.Chain.{first};
 ghost use Rattle.plant.specs.Checks.{entryBelow};
 ghost use Rattle.choice.specs.Table.{linkIn, ChoicesIn};
-ghost use Rattle.calls.specs.Work.{levelKnown, earlyTests, wishKnown, madeAt, GroupDone, RowDone, Started, Remembered, Granted};
+ghost use Rattle.calls.specs.Work.{levelKnown, earlyTests, wishKnown, madeAt, NeedIn, Needed, Reached, GroupDone, SetDone, Started, Tabled, Remembered, Granted};
 use crate::grant_row;
 use crate::put_row;
 use crate::wide;
 use choice::make_choices;
+use lattice::with_one;
+use lattice::without_one;
 
 // Makes the table of choices where it is not made yet, at the first start of a list: entry 0 is 254 until then, which no choice is.
 fn make_once<'a>(
@@ -27,7 +29,7 @@ fn make_once<'a>(
     requires { ⌜ (groups ≤ 8) × (tanks ≤ 64) ⌝ }
     requires { ⌜ allBelow (linkIn (now lattice) (now requirement)) groups ≡ true ⌝ }
     requires { ⌜ (allBelow (entryBelow (now group) groups) tanks ≡ true) × (allBelow (entryBelow (now level) 16) tanks ≡ true) ⌝ }
-    requires { ⌜ Remembered (now sets) (now group) (now level) (now lattice) (now requirement) groups tanks (now made) ⌝ }
+    requires { ⌜ Tabled (now sets) (now group) (now level) (now lattice) (now requirement) groups tanks (now made) ⌝ }
     ensures { λ r. ⌜ ChoicesIn (now (sets .entry)) (now (group .entry)) (now (level .entry)) (now (lattice .entry)) (now (requirement .entry)) groups tanks (now (made .exit)) ⌝ }
 {
     if made[0] != 254 {
@@ -45,66 +47,91 @@ fn make_once<'a>(
     );
 }
 
-// Group g of a start, and its own number: 27 where the task has a right there and the level is unset, 28 where the table has no tank, else 0.
-// The tank goes to `row`, which is empty at g: where the task has no right it stays so.
+// The groups on which task t names a right, as a set.
+fn need_of(rights: &[u8; 128], t: usize, groups: u8) -> u16
+    requires { ⌜ (t < 16) × (groups ≤ 8) ⌝ }
+    ensures { λ r. ⌜ NeedIn (now (rights .entry)) t groups r ⌝ }
+{
+    let n = wide(groups);
+    let mut need: u16 = 0;
+    for g in 0..n {
+        if rights[t * 8 + g] != 0 {
+            need = with_one(need, g);
+        }
+    }
+    need
+}
+
+// The same, made at the first start of the task in a list and looked up at the others. The empty set stands for one that is not made yet; a
+// task without a right is looked at anew.
+fn need_once<'a>(rights: &'a [u8; 128], needs: &mut [u16; 16], t: usize, groups: u8) -> u16
+    requires { ⌜ (t < 16) × (groups ≤ 8) ⌝ }
+    requires { ⌜ Needed (now rights) groups (now needs) ⌝ }
+    ensures { λ r. ⌜ NeedIn (now (rights .entry)) t groups r × Needed (now (rights .entry)) groups (now (needs .exit)) ⌝ }
+{
+    let known = needs[t];
+    if known != 0 {
+        return known;
+    }
+    let need = need_of(rights, t, groups);
+    needs[t] = need;
+    need
+}
+
+// A group g that a start needs, and its own number: 27 where the level is unset, 28 where the table has no tank, else 0. The tank goes to `row`.
 fn choose_at<'a>(
     requirement: &'a [u8; 8],
-    rights: &'a [u8; 128],
     levels: &[u8; 1024],
     made: &[u8; 128],
     row: &mut [u8; 8],
     s: usize,
     t: usize,
-    g: u8,
+    g: usize,
 ) -> u8
     requires { ⌜ (s < 8) × ((t < 16) × (g < 8)) ⌝ }
-    requires { ⌜ getD (now requirement) g 0 < 8 ⌝ }
-    requires { ⌜ (levelKnown (now levels) s t (getD (now requirement) g 0) ≡ true) × (getD (now row) g 0 ≡ 255) ⌝ }
-    ensures { λ r. ⌜ GroupDone (madeAt (now (made .entry))) (now (requirement .entry)) (now (rights .entry)) (now (levels .entry)) s t g (now (row .entry)) r (now (row .exit)) ⌝ }
+    requires { ⌜ (getD (now requirement) g 0 < 8) × (levelKnown (now levels) s t (getD (now requirement) g 0) ≡ true) ⌝ }
+    ensures { λ r. ⌜ GroupDone (madeAt (now (made .entry))) (now (requirement .entry)) (now (levels .entry)) s t g (now (row .entry)) r (now (row .exit)) ⌝ }
 {
-    if rights[t * 8 + g as usize] == 0 {
-        return 0;
-    }
-    let d = wide(requirement[g as usize]);
+    let d = wide(requirement[g]);
     let v = levels[(s * 16 + t) * 8 + d];
     if v == 255 {
         return 27;
     }
-    let o = made[g as usize * 16 + wide(v)];
-    row[g as usize] = o;
+    let o = made[g * 16 + wide(v)];
+    row[g] = o;
     if o == 255 {
         return 28;
     }
     0
 }
 
-// The skid's row of choices for a task: 27, 28 or 0. 27 of any group comes before 28 of any, so that 27 alone ends the loop.
+// The skid's row of choices for the groups of the set `need`: 27, 28 or 0. 27 of any group comes before 28 of any, so that 27 alone ends the
+// loop. It goes from group to group of the set, since which groups a task needs cannot be predicted.
 fn choose_row<'a>(
     requirement: &'a [u8; 8],
-    rights: &'a [u8; 128],
     levels: &[u8; 1024],
     made: &[u8; 128],
     row: &mut [u8; 8],
     s: usize,
     t: usize,
-    groups: u8,
+    need: u16,
 ) -> u8
-    requires { ⌜ (s < 8) × ((t < 16) × (groups ≤ 8)) ⌝ }
-    requires { ⌜ allBelow (entryBelow (now requirement) 8) groups ≡ true ⌝ }
-    requires { ⌜ (allBelow (wishKnown (now requirement) (now levels) s t) groups ≡ true) × (now row ≡ replicate 8 255) ⌝ }
-    ensures { λ r. ⌜ RowDone (madeAt (now (made .entry))) (now (requirement .entry)) (now (rights .entry)) (now (levels .entry)) s t groups r (now (row .exit)) ⌝ }
+    requires { ⌜ (s < 8) × (t < 16) ⌝ }
+    requires { ⌜ Reached (now requirement) (now levels) s t need × (now row ≡ replicate 8 255) ⌝ }
+    ensures { λ r. ⌜ SetDone (madeAt (now (made .entry))) (now (requirement .entry)) (now (levels .entry)) s t need r (now (row .exit)) ⌝ }
 {
     let mut number: u8 = 0;
-    let mut g: u8 = 0;
-    while g < groups {
-        let own = choose_at(requirement, rights, levels, made, row, s, t, g);
+    let mut rest = need;
+    while rest != 0 {
+        let g = u16::trailing_zeros(rest) as usize;
+        rest = without_one(rest, g);
+        let own = choose_at(requirement, levels, made, row, s, t, g);
         if own == 27 {
             return own;
         }
         if own == 28 {
             number = 28;
         }
-        g += 1;
     }
     number
 }
@@ -142,6 +169,7 @@ pub fn start_at<'a>(
     running: &mut [u8; 8],
     chosen: &mut [u8; 64],
     made: &mut [u8; 128],
+    needs: &mut [u16; 16],
     granted: &mut [u8; 64],
     skids: u8,
     tasks: u8,
@@ -153,10 +181,10 @@ pub fn start_at<'a>(
     requires { ⌜ (skids ≤ 8) × ((tasks ≤ 16) × ((groups ≤ 8) × (tanks ≤ 64))) ⌝ }
     requires { ⌜ allBelow (linkIn (now lattice) (now requirement)) groups ≡ true ⌝ }
     requires { ⌜ (allBelow (entryBelow (now group) groups) tanks ≡ true) × (allBelow (entryBelow (now level) 16) tanks ≡ true) ⌝ }
-    requires { ⌜ Remembered (now sets) (now group) (now level) (now lattice) (now requirement) groups tanks (now made) ⌝ }
+    requires { ⌜ Remembered (now sets) (now group) (now level) (now lattice) (now requirement) (now rights) groups tanks (now made) (now needs) ⌝ }
     requires { ⌜ Granted (now rights) (now running) skids (now granted) ⌝ }
     requires { ⌜ (s < skids → t < tasks → allBelow (wishKnown (now requirement) (now levels) s t) groups ≡ true) ⌝ }
-    ensures { λ r. ⌜ (Started (now (sets .entry)) (now (group .entry)) (now (level .entry)) (now (lattice .entry)) (now (requirement .entry)) (now (rights .entry)) (now (may .entry)) (now (levels .entry)) (now (running .entry)) (now (chosen .entry)) skids tasks groups tanks s t r (now (running .exit)) (now (chosen .exit))) × (Remembered (now (sets .entry)) (now (group .entry)) (now (level .entry)) (now (lattice .entry)) (now (requirement .entry)) groups tanks (now (made .exit)) × Granted (now (rights .entry)) (now (running .exit)) skids (now (granted .exit))) ⌝ }
+    ensures { λ r. ⌜ (Started (now (sets .entry)) (now (group .entry)) (now (level .entry)) (now (lattice .entry)) (now (requirement .entry)) (now (rights .entry)) (now (may .entry)) (now (levels .entry)) (now (running .entry)) (now (chosen .entry)) skids tasks groups tanks s t r (now (running .exit)) (now (chosen .exit))) × (Remembered (now (sets .entry)) (now (group .entry)) (now (level .entry)) (now (lattice .entry)) (now (requirement .entry)) (now (rights .entry)) groups tanks (now (made .exit)) (now (needs .exit)) × Granted (now (rights .entry)) (now (running .exit)) skids (now (granted .exit))) ⌝ }
 {
     let early = start_early(may, running, skids, tasks, s, t);
     if early != 0 {
@@ -172,16 +200,16 @@ pub fn start_at<'a>(
         groups,
         tanks,
     );
+    let need = need_once(rights, needs, t as usize, groups);
     let mut row = [255u8; 8];
     let number = choose_row(
         requirement,
-        rights,
         levels,
         made,
         &mut row,
         s as usize,
         t as usize,
-        groups,
+        need,
     );
     if number != 0 {
         return number;

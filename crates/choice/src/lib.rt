@@ -10,16 +10,9 @@ ghost use Rattle.plant.specs.Checks.{entryBelow};
 ghost use Rattle.choice.specs.Search.{underIn};
 ghost use Rattle.choice.specs.Table.{linkIn, ChoicesIn, standsIn, reachesIn, nearerIn, Put};
 use lattice::byte_where;
+use lattice::with_one;
 use lattice::with_set;
-use lattice::without_level;
-
-// The set x with level i.
-fn with_level(x: u16, i: u8) -> u16
-    requires { ⌜ i < 16 ⌝ }
-    ensures { λ r. ⌜ ((j : ℕ) → bit r j ≡ bit x j || eqb i j) ⌝ }
-{
-    x | (1u16 << i)
-}
+use lattice::without_one;
 
 // The levels of the set x that are not in y.
 fn without_set(x: u16, y: u16) -> u16
@@ -38,7 +31,7 @@ fn places_of<'a>(group: &'a [u8; 64], level: &'a [u8; 64], tanks: usize) -> [u16
     let mut o: usize = 0;
     while o < tanks {
         let g = group[o] as usize;
-        places[g] = with_level(places[g], level[o]);
+        places[g] = with_one(places[g], level[o] as usize);
         o += 1;
     }
     places
@@ -66,7 +59,7 @@ fn nearest_for(sets: &[u16; 128], l: usize, places: u16, x: usize) -> u16
     ensures { λ r. ⌜ ((v : ℕ) → bit r v ≡ underIn (now (sets .entry)) l x v && not (anyBelow (nearerIn (now (sets .entry)) l places x v) 16)) ⌝ }
 {
     let own = sets[l * 16 + x];
-    let nearer = without_level(places & own, x);
+    let nearer = without_one(places & own, x);
     let taken = above_in(sets, l, nearer);
     without_set(own, taken)
 }

@@ -1,6 +1,6 @@
 // Lattices of levels: the test that a lattice record is a lattice, by its table of joins and its table of meets.
 ghost use mathlib.Core.Path.{_≡_};
-ghost use mathlib.Core.Bool.{true, cond, not, _&&_};
+ghost use mathlib.Core.Bool.{true, cond, not, _&&_, _||_};
 ghost use lib.Bits.{bitOr};
 ghost use lib.Dec.{eqb};
 ghost use lib.ListN.{getD};
@@ -79,8 +79,16 @@ pub fn with_set(y: u16, these: u16, j: usize, x: u16) -> u16
     if has(these, j) { y | x } else { y }
 }
 
-// The set x without level i.
-pub fn without_level(x: u16, i: usize) -> u16
+// The set x with the number i in it. Sets of levels and sets of groups are the bits of a number.
+pub fn with_one(x: u16, i: usize) -> u16
+    requires { ⌜ i < 16 ⌝ }
+    ensures { λ r. ⌜ ((k : ℕ) → bit r k ≡ bit x k || eqb i k) ⌝ }
+{
+    x | (1u16 << i)
+}
+
+// The set x without the number i.
+pub fn without_one(x: u16, i: usize) -> u16
     requires { ⌜ i < 16 ⌝ }
     ensures { λ r. ⌜ ((k : ℕ) → bit r k ≡ bit x k && not (eqb i k)) ⌝ }
 {
@@ -102,7 +110,7 @@ fn strict_sets(s: &[u16; 16]) -> [u16; 16]
     let mut strict = [0u16; 16];
     let mut i: usize = 0;
     while i < 16 {
-        strict[i] = without_level(s[i], i);
+        strict[i] = without_one(s[i], i);
         i += 1;
     }
     strict

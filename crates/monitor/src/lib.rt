@@ -71,6 +71,7 @@ pub fn advance(m: Monitor, kind: u8, a: u8, b: u8, c: u8, d: u8) -> Answered
     let mut running = m.running;
     let mut chosen = m.chosen;
     let mut made = [254u8; 128];
+    let mut needs = [0u16; 16];
     let mut granted = grants_of(&p.rights, &running, p.skids);
     let answer = turn(
         &p.sizes,
@@ -85,6 +86,7 @@ pub fn advance(m: Monitor, kind: u8, a: u8, b: u8, c: u8, d: u8) -> Answered
         &mut running,
         &mut chosen,
         &mut made,
+        &mut needs,
         &mut granted,
         p.skids,
         p.tasks,

@@ -21,17 +21,17 @@ use Rattle.batch.proofs.serve.Statement.{statement}
 use Rattle.batch.proofs.serve.Tie as tie
 
 abbrev Inv-loop : tie.InvT-loop
-Inv-loop bytes n out₀ p levels₀ running₀ chosen₀ made₀ granted₀ i₀ out levels running chosen made granted i = (i ≤ n) × ((length out ≡ length out₀) × ((record { plant = p; levels = levels; running = running; chosen = chosen } ≡ ends (fresh p) (callsOf bytes i)) × ((out ≡ overlay out₀ 0 (runs (fresh p) (callsOf bytes i))) × (Remembered (p .sets) (p .group) (p .level) (p .lattice) (p .requirement) (p .groups) (p .tanks) made × Granted (p .rights) running (p .skids) granted))))
+Inv-loop bytes n out₀ p levels₀ running₀ chosen₀ made₀ needs₀ granted₀ i₀ out levels running chosen made needs granted i = (i ≤ n) × ((length out ≡ length out₀) × ((record { plant = p; levels = levels; running = running; chosen = chosen } ≡ ends (fresh p) (callsOf bytes i)) × ((out ≡ overlay out₀ 0 (runs (fresh p) (callsOf bytes i))) × (Remembered (p .sets) (p .group) (p .level) (p .lattice) (p .requirement) (p .rights) (p .groups) (p .tanks) made needs × Granted (p .rights) running (p .skids) granted))))
 
 abbrev μ-loop : tie.MeasureT-loop
-μ-loop bytes n out₀ p levels₀ running₀ chosen₀ made₀ granted₀ i₀ out levels running chosen made granted i = n - i
+μ-loop bytes n out₀ p levels₀ running₀ chosen₀ made₀ needs₀ granted₀ i₀ out levels running chosen made needs granted i = n - i
 
 loop-holds : tie.Need-loop-holds Inv-loop μ-loop
-loop-holds c = let s = c .before .before in (omega arith, (refl, (first-record (s .args .t1) (s .args .bytes .now), (first-out (s .args .t1) (s .args .bytes .now) (s .args .out .now), (none-made _ _ _ _ _ _ _, none-granted (s .args .t1 .rights) (s .args .t1 .skids) (valid (s .args .t1) (sound-law (s .args .t1) .0 (s .pre .0)) .counts .skids-fit))))))
+loop-holds c = let s = c .before .before in (omega arith, (refl, (first-record (s .args .t1) (s .args .bytes .now), (first-out (s .args .t1) (s .args .bytes .now) (s .args .out .now), (none-made _ _ _ _ _ _ _ _, none-granted (s .args .t1 .rights) (s .args .t1 .skids) (valid (s .args .t1) (sound-law (s .args .t1) .0 (s .pre .0)) .counts .skids-fit))))))
 
 turn-requires : tie.Need-turn-requires Inv-loop μ-loop
 turn-requires c κs =
-    let l = c .before .before .before .before .before .before .before .before .before .before .before .before .before .before .before .before in
+    let l = c .before .before .before .before .before .before .before .before .before .before .before .before .before .before .before .before .before in
     let s = l .before .before .before in
     let p = s .args .t1 in
     let m : Monitor = record { plant = p; levels = l .loop .levels; running = l .loop .running; chosen = l .loop .chosen } in
@@ -41,7 +41,7 @@ turn-requires c κs =
 
 slice-write-out : tie.Need-slice-write-out Inv-loop μ-loop
 slice-write-out c =
-    let t = c .before .before .before .before .before .before .before .before .before .before .before .before .before .before .before .before in
+    let t = c .before .before .before .before .before .before .before .before .before .before .before .before .before .before .before .before .before in
     let l = t .before in
     let s = l .before .before .before in
     let i : l .loop .i < s .args .n = t .loop-test .taken in
@@ -49,9 +49,17 @@ slice-write-out c =
     let b = s .pre .1 .1 in
     omega arith
 
+-- the next index is at most n, which fits
+add-i : tie.Need-add-i Inv-loop μ-loop
+add-i c =
+    let t = c .before .before .before .before .before .before .before .before .before .before .before .before .before .before .before .before .before in
+    let s = t .before .before .before .before in
+    let k : t .before .loop .i < s .args .n = t .loop-test .taken in
+    search (needs, k, s .fits .n)
+
 loop-again : tie.Need-loop-again Inv-loop μ-loop
 loop-again c =
-    let t = c .before .before .before .before .before .before .before .before .before .before .before .before .before .before .before .before in
+    let t = c .before .before .before .before .before .before .before .before .before .before .before .before .before .before .before .before .before in
     let l = t .before in
     let s = l .before .before .before in
     let p = s .args .t1 in
@@ -60,7 +68,7 @@ loop-again c =
     let k : l .loop .i < s .args .n = t .loop-test .taken in
     let m : Monitor = record { plant = p; levels = l .loop .levels; running = l .loop .running; chosen = l .loop .chosen } in
     let i = still-intact p (s .pre .0) bytes (l .loop .i) (v .1 .1 .0) in
-    let h = rw (c .before .before .before .before .before .before .before .before .before .before .before .before .before .before .before .request-at .ensures) at (c .turn .ensures .0) in
+    let h = rw (c .before .before .before .before .before .before .before .before .before .before .before .before .before .before .before .before .request-at .ensures) at (c .turn .ensures .0) in
     let b : l .loop .i < length (s .args .out .now) = omega (arith, s .pre .1 .1) in (
       omega arith,
       (
@@ -81,4 +89,4 @@ returns c =
 pub serve-spec : {M : Type 1} → statement M
 serve-spec =
     tie.close
-    (tie.spec Inv-loop μ-loop loop-holds (λ c κs. search needs) (λ c. search needs) (λ c. search needs) (λ c. search needs) (λ c. search needs) (λ c. search needs) turn-requires slice-write-out (λ c. search needs) (λ c. search needs) loop-again (λ c. search needs) returns)
+    (tie.spec Inv-loop μ-loop loop-holds (λ c κs. search needs) (λ c. search needs) (λ c. search needs) (λ c. search needs) (λ c. search needs) (λ c. search needs) turn-requires slice-write-out add-i (λ c. search needs) loop-again (λ c. search needs) returns)

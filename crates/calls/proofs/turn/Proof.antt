@@ -42,14 +42,14 @@ returns-3 c =
 
 start-at-requires : tie.Need-start-at-requires
 start-at-requires c κs =
-    let s = c .before .before .before .before .before .before .before .before in
+    let s = c .before .before .before .before .before .before .before .before .before in
     let n = s .pre .0 in
     let h = s .pre .1 .0 in
     ((n .0, (n .1 .0, (n .1 .1 .1 .0, n .1 .1 .1 .1))), (h .links-there, ((h .groups-counted, h .levels-there), (s .pre .1 .1 .0, (s .pre .1 .1 .1, h .wishes-known (s .args .a) (s .args .b))))))
 
 returns-4 : tie.Need-returns-4
 returns-4 c =
-    let k = c .before .before .before .before .before .before .if4 .taken in
+    let k = c .before .before .before .before .before .before .before .if4 .taken in
     let h = c .start-at .ensures .0 in
     (record { answers = h .answers ∙ rw k; sets-levels = rw k; runs = h .runs ∙ rw k; chooses = h .chooses ∙ rw k }, c .start-at .ensures .1)
 

@@ -15,14 +15,14 @@ grants-of-requires c κs =
 
 turn-requires : tie.Need-turn-requires
 turn-requires c κs =
-    let g = c .before .before .before .before .before .before .before .before .before .before .before .before .before .before in
+    let g = c .before .before .before .before .before .before .before .before .before .before .before .before .before .before .before in
     let s = g .before .before .before .before .before .before .before .before in
     let f = plant-valid (s .args .m) (s .pre) .counts in
-    ((f .skids-fit, (f .tasks-fit, (f .requirements-fit, (f .groups-fit, f .tanks-fit)))), (lent (s .args .m) (s .pre), (none-made _ _ _ _ _ _ _, g .grants-of .ensures)))
+    ((f .skids-fit, (f .tasks-fit, (f .requirements-fit, (f .groups-fit, f .tanks-fit)))), (lent (s .args .m) (s .pre), (none-made _ _ _ _ _ _ _ _, g .grants-of .ensures)))
 
 returns : tie.Need-returns
 returns c =
-    let s = c .before .before .before .before .before .before .before .before .before .before .before .before .before .before .before .before .before .before .before .before .before .before .before in
+    let s = c .before .before .before .before .before .before .before .before .before .before .before .before .before .before .before .before .before .before .before .before .before .before .before .before in
     let a = s .args in
     passed-on (a .m) (s .pre) (callBy (a .kind) (a .a) (a .b) (a .c) (a .d))
     (turned-answer (a .m) (s .pre) (a .kind) (a .a) (a .b) (a .c) (a .d) (c .turn .ensures .0))

@@ -1,55 +1,73 @@
--- `calls::start::choose_row` meets its contract: the groups are looked at one after the other. Assumes nothing.
-use Prim.Native.Nat.{_≤_, _-_}
-use native.Mathlib.Nat.{lt-of-lt-of-le}
-use mathlib.Core.Logic.{⊎-elim}
-use Rattle.base.proofs.Below.{all-at}
-use Rattle.plant.proofs.Links.{entry-at}
-use Rattle.calls.specs.Work.{wishKnown, madeAt}
-use Rattle.calls.proofs.Groups.{RowSoFar, none-yet, still-empty, ends-27, becomes-28, stays, all-seen}
+-- `calls::start::choose_row` meets its contract: the groups of the set are looked at one after the other. Assumes nothing.
+use mathlib.Core.Path.{_≡_, refl}
+use mathlib.Core.Bool.{true}
+use Prim.Native.Nat.{_<_}
+use native.Mathlib.Omega.{arith}
+use lib.Count.{trailingZeros, trailing-le}
 use borrow.Author.Needs.{needs}
+use Rattle.base.specs.Bits.{bit}
+use Rattle.calls.specs.Work.{madeAt}
+use Rattle.calls.proofs.Groups.{RowSoFar, none-yet, next-group, ends-27, becomes-28, stays, goes-down, all-seen}
 use Rattle.calls.proofs.start.choose_row.Statement.{statement}
 use Rattle.calls.proofs.start.choose_row.Tie as tie
 
 abbrev Inv-loop : tie.InvT-loop
-Inv-loop requirement rights levels made row₀ s t groups number₀ g₀ row number g = (g ≤ groups) × RowSoFar (madeAt made) requirement rights levels s t g number row
+Inv-loop requirement levels made row₀ s t need number₀ rest₀ row number rest = RowSoFar (madeAt made) requirement levels s t need rest number row
 
 abbrev μ-loop : tie.MeasureT-loop
-μ-loop requirement rights levels made row₀ s t groups number₀ g₀ row number g = groups - g
+μ-loop requirement levels made row₀ s t need number₀ rest₀ row number rest = rest
 
 loop-holds : tie.Need-loop-holds Inv-loop μ-loop
-loop-holds c = (search needs, none-yet _ _ _ _ _ _ (c .pre .1 .1 .1))
+loop-holds c = none-yet _ _ _ _ _ _ (c .pre .1 .1)
+
+-- the group that the loop has come to
+group : (i : tie.In-loop Inv-loop μ-loop) → (trailingZeros 16 (i .before .loop .rest) < 8) × (bit (i .before .loop .rest) (trailingZeros 16 (i .before .loop .rest)) ≡ true)
+group i = next-group (i .before .loop .inv) (i .before .before .pre .1 .0) (i .loop-test .taken)
+
+cast-g : tie.Need-cast-g Inv-loop μ-loop
+cast-g c = let b = trailing-le 16 (c .before .loop .rest) in search needs
+
+without-one-requires : tie.Need-without-one-requires Inv-loop μ-loop
+without-one-requires c κs = omega (arith, group c .0)
 
 choose-at-requires : tie.Need-choose-at-requires Inv-loop μ-loop
 choose-at-requires c κs =
-    let i = c .before in
-    let v = i .before .loop .inv in
-    let g = i .before .loop .g in
+    let i = c .before .before in
     let s = i .before .before in
-    let a = s .args in
-    let h = i .loop-test .taken in
-    let l = lt-of-lt-of-le h (s .pre .0 .1 .1) in
-    let d = entry-at (a .requirement .now) 8 (a .groups) g (s .pre .1 .0) h in
-    let k = all-at (a .groups) (wishKnown (a .requirement .now) (a .levels .now) (a .s) (a .t)) (s .pre .1 .1 .0) g h in
-    ((s .pre .0 .0, (s .pre .0 .1 .0, l)), (d, (k, still-empty (v .1) l)))
+    let k = s .pre .1 .0 (trailingZeros 16 (i .before .loop .rest)) (i .before .loop .inv .part (trailingZeros 16 (i .before .loop .rest)) (group i .1)) in
+    ((s .pre .0 .0, (s .pre .0 .1, k .0)), k .1)
 
 returns : tie.Need-returns Inv-loop μ-loop
 returns c =
-    let i = c .before .before .before in
-    let d = c .before .choose-at .ensures in
-    ends-27 (i .before .loop .inv .1) d (i .loop-test .taken) (c .if1 .taken)
+    let o = c .before .before .before in
+    let i = o .before in
+    ends-27 (i .before .loop .inv) (trailingZeros 16 (i .before .loop .rest)) (o .without-one .result) (group i .0) (group i .1) (o .without-one .ensures) (c .before .choose-at .ensures) (c .if1 .taken)
+
+-- the rest goes down, whatever the group gave
+down : (x : tie.After-choose-at Inv-loop μ-loop) → x .before .before .without-one .result < x .before .before .before .before .loop .rest
+down x =
+    let o = x .before .before in
+    let i = o .before in
+    goes-down (i .before .loop .inv) (trailingZeros 16 (i .before .loop .rest)) (o .without-one .result) (group i .0) (group i .1) (o .without-one .ensures) (x .choose-at .ensures) (i .before .before .pre .1 .0)
 
 loop-again : tie.Need-loop-again Inv-loop μ-loop
 loop-again c =
     let x = c .before .before in
-    let v = x .before .before .before .loop .inv .1 in
-    let d = x .choose-at .ensures in
-    let n = c .before .if1 .left in
-    (search needs, ⊎-elim (λ w. becomes-28 v d n (w .0 .taken) (w .1)) (λ w. stays v d n (w .0 .left) (w .1)) (c .if2 .came))
+    let o = x .before .before in
+    let i = o .before in
+    becomes-28 (i .before .loop .inv) (trailingZeros 16 (i .before .loop .rest)) (o .without-one .result) (group i .0) (group i .1) (o .without-one .ensures) (x .choose-at .ensures) (c .before .if1 .left) (c .if2 .taken) refl
+
+loop-again-2 : tie.Need-loop-again-2 Inv-loop μ-loop
+loop-again-2 c =
+    let x = c .before .before in
+    let o = x .before .before in
+    let i = o .before in
+    stays (i .before .loop .inv) (trailingZeros 16 (i .before .loop .rest)) (o .without-one .result) (group i .0) (group i .1) (o .without-one .ensures) (x .choose-at .ensures) (c .before .if1 .left) (c .if2 .left) refl
 
 returns-2 : tie.Need-returns-2 Inv-loop μ-loop
-returns-2 c = let v = c .before .loop .inv in all-seen (v .1) (v .0) (c .loop-test .left)
+returns-2 c = all-seen (c .before .loop .inv) (c .loop-test .left)
 
 pub choose-row-spec : {M : Type 1} → statement M
 choose-row-spec =
     tie.close
-    (tie.spec Inv-loop μ-loop loop-holds choose-at-requires returns (λ c. search needs) (λ c. search needs) loop-again returns-2)
+    (tie.spec Inv-loop μ-loop loop-holds cast-g without-one-requires choose-at-requires returns (λ c. down (c .before .before)) loop-again (λ c. down (c .before .before)) loop-again-2 returns-2)

@@ -4,7 +4,7 @@ use Prim.Native.Nat.{_<_}
 use native.Mathlib.Nat.{lt-of-lt-of-le}
 use Rattle.calls.proofs.Early.{passed, started-early, started-refused, started-0}
 use Rattle.calls.proofs.Grants.{task-put}
-use Rattle.calls.proofs.Made.{remembered, requirements-there, by-choice}
+use Rattle.calls.proofs.Made.{remembered, reached, by-choice}
 use borrow.Author.Needs.{needs}
 use Rattle.calls.proofs.start.start_at.Statement.{statement}
 use Rattle.calls.proofs.start.start_at.Tie as tie
@@ -29,48 +29,58 @@ returns c =
 make-once-requires : tie.Need-make-once-requires
 make-once-requires c κs =
     let s = c .before .before .before .before in
-    (s .pre .0 .1 .1, (s .pre .1 .0, (s .pre .1 .1 .0, s .pre .1 .1 .1 .0)))
+    (s .pre .0 .1 .1, (s .pre .1 .0, (s .pre .1 .1 .0, s .pre .1 .1 .1 .0 .table)))
+
+need-once-requires : tie.Need-need-once-requires
+need-once-requires c κs =
+    let i = c .before .before .before in
+    let s = i .before .before .before in
+    ((task-fits i, s .pre .0 .1 .1 .0), s .pre .1 .1 .1 .0 .tasks)
 
 choose-row-requires : tie.Need-choose-row-requires
 choose-row-requires c κs =
-    let i = c .before .before .before .before in
-    let s = i .before .before .before in
-    let k = there i in
-    ((skid-fits i, (task-fits i, s .pre .0 .1 .1 .0)), (requirements-there (s .args .lattice .now) (s .args .requirement .now) (s .args .groups) (s .pre .1 .0), (s .pre .1 .1 .1 .1 .1 (k .0) (k .1), refl)))
-
-returns-2 : tie.Need-returns-2
-returns-2 c =
-    let h = c .before .before .before .before .make-once .ensures in
-    let i = c .before .before .before .before .before .before in
+    let n = c .before .before in
+    let i = n .before .before .before .before in
     let s = i .before .before .before in
     let a = s .args in
     let k = there i in
-    let w = by-choice (a .sets .now) (a .group .now) (a .level .now) (a .lattice .now) (a .requirement .now) (a .rights .now) (a .levels .now) (a .groups) (a .tanks) (a .s) (a .t) h (s .pre .1 .1 .1 .1 .1 (k .0) (k .1)) (c .before .choose-row .ensures) in
-    (started-refused _ _ _ _ _ _ _ _ _ _ _ _ _ _ _ _ (i .before .start-early .ensures) (i .if1 .left) w (c .if2 .taken), (remembered h, s .pre .1 .1 .1 .1 .0))
+    ((skid-fits i, task-fits i), (reached (a .lattice .now) (a .requirement .now) (a .rights .now) (a .levels .now) (a .groups) (a .s) (a .t) (n .need-once .result) (s .pre .0 .1 .1 .0) (s .pre .1 .0) (s .pre .1 .1 .1 .1 .1 (k .0) (k .1)) (n .need-once .ensures .0), refl))
+
+returns-2 : tie.Need-returns-2
+returns-2 c =
+    let n = c .before .before .before .before in
+    let m = n .before .before in
+    let i = m .before .before in
+    let s = i .before .before .before in
+    let a = s .args in
+    let k = there i in
+    let w = by-choice (a .sets .now) (a .group .now) (a .level .now) (a .lattice .now) (a .requirement .now) (a .rights .now) (a .levels .now) (a .groups) (a .tanks) (a .s) (a .t) (n .need-once .result) (s .pre .0 .1 .1 .0) (m .make-once .ensures) (s .pre .1 .1 .1 .1 .1 (k .0) (k .1)) (n .need-once .ensures .0) (c .before .choose-row .ensures) in
+    (started-refused _ _ _ _ _ _ _ _ _ _ _ _ _ _ _ _ (i .before .start-early .ensures) (i .if1 .left) w (c .if2 .taken), (remembered (m .make-once .ensures) (n .need-once .ensures .1), s .pre .1 .1 .1 .1 .0))
 
 element-write-running : tie.Need-element-write-running
-element-write-running c = skid-fits (c .before .before .before .before .before .before)
+element-write-running c = skid-fits (c .before .before .before .before .before .before .before .before)
 
 put-row-requires : tie.Need-put-row-requires
-put-row-requires c κs = skid-fits (c .before .before .before .before .before .before .before)
+put-row-requires c κs = skid-fits (c .before .before .before .before .before .before .before .before .before)
 
 grant-row-requires : tie.Need-grant-row-requires
-grant-row-requires c κs = let i = c .before .before .before .before .before .before .before .before .before in (skid-fits i, task-fits i)
+grant-row-requires c κs = let i = c .before .before .before .before .before .before .before .before .before .before .before in (skid-fits i, task-fits i)
 
 returns-3 : tie.Need-returns-3
 returns-3 c =
     let j = c .before .before .before .before in
-    let h = j .before .before .before .before .make-once .ensures in
-    let i = j .before .before .before .before .before .before in
+    let n = j .before .before .before .before in
+    let m = n .before .before in
+    let i = m .before .before in
     let s = i .before .before .before in
     let a = s .args in
     let k = there i in
-    let w = by-choice (a .sets .now) (a .group .now) (a .level .now) (a .lattice .now) (a .requirement .now) (a .rights .now) (a .levels .now) (a .groups) (a .tanks) (a .s) (a .t) h (s .pre .1 .1 .1 .1 .1 (k .0) (k .1)) (j .before .choose-row .ensures) in (
+    let w = by-choice (a .sets .now) (a .group .now) (a .level .now) (a .lattice .now) (a .requirement .now) (a .rights .now) (a .levels .now) (a .groups) (a .tanks) (a .s) (a .t) (n .need-once .result) (s .pre .0 .1 .1 .0) (m .make-once .ensures) (s .pre .1 .1 .1 .1 .1 (k .0) (k .1)) (n .need-once .ensures .0) (j .before .choose-row .ensures) in (
       started-0 _ _ _ _ _ _ _ _ _ _ _ _ _ _ _ _ (i .before .start-early .ensures) (i .if1 .left) w (j .if2 .left) refl (c .before .before .put-row .ensures),
-      (remembered h, rw (c .grant-row .ensures) (task-put (a .rights .now) (a .running .now) (a .s) (skid-fits i) (s .pre .1 .1 .1 .1 .0) (a .t) (task-fits i))),
+      (remembered (m .make-once .ensures) (n .need-once .ensures .1), rw (c .grant-row .ensures) (task-put (a .rights .now) (a .running .now) (a .s) (skid-fits i) (s .pre .1 .1 .1 .1 .0) (a .t) (task-fits i))),
     )
 
 pub start-at-spec : {M : Type 1} → statement M
 start-at-spec =
     tie.close
-    (tie.spec (λ c κs. search needs) returns make-once-requires choose-row-requires returns-2 element-write-running put-row-requires grant-row-requires returns-3)
+    (tie.spec (λ c κs. search needs) returns make-once-requires need-once-requires choose-row-requires returns-2 element-write-running put-row-requires grant-row-requires returns-3)
