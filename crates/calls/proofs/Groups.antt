@@ -5,6 +5,7 @@ use mathlib.Core.Logic.{_≢_}
 use Prim.Native.Nat.{ℕ, _^_, _<_}
 use native.Mathlib.Omega.{arith}
 use mathlib.Core.Bool.{Bool, true, false, cond, not, _&&_, and-false}
+use mathlib.Core.Bool as bool
 use mathlib.Core.List.{List, [], _∷_}
 use lib.Count.{trailingZeros}
 use lib.Dec.{eqb}
@@ -54,10 +55,6 @@ none-seen : (b : Bool) → b && not b ≡ false
 none-seen true = refl
 none-seen false = refl
 
-all-of : (b : Bool) → b && true ≡ b
-all-of true = refl
-all-of false = refl
-
 module _ (found : ℕ → ℕ → ℕ) (requirement levels : List ℕ) (s t need : ℕ) where
   abbrev unset : ℕ → Bool
   unset g = eqb (wishIn found requirement levels s t g) 255
@@ -106,7 +103,7 @@ module _ {found : ℕ → ℕ → ℕ} {requirement levels : List ℕ} {s t need
 
   pub all-seen : rest ≡ 0 → SetDone found requirement levels s t need number row
   all-seen z =
-      let same : (g : ℕ) → seen need rest g ≡ bit need g = λ g. rw (z, zero-bit g) (all-of (bit need g)) in
+      let same : (g : ℕ) → seen need rest g ≡ bit need g = λ g. rw (z, zero-bit g) (bool.and-true (bit need g)) in
       record {
         answers = v .answers ∙ rw (
           any-same 8 (λ g. seen need rest g && q g) (λ g. bit need g && q g) (λ g l. rw (same g)),
@@ -139,7 +136,7 @@ module _ {found : ℕ → ℕ → ℕ} {requirement levels : List ℕ} {s t need
     seen-own = rw (w g, h, v .part g h, eq-eqb g g refl)
 
     seen-other : (j : ℕ) → eqb g j ≡ false → seen need left j ≡ seen need rest j
-    seen-other j z = rw (w j, z, all-of (bit rest j))
+    seen-other j z = rw (w j, z, bool.and-true (bit rest j))
 
     module _ (e : n ≢ 27) where
       is-set : p g ≡ false

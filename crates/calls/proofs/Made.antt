@@ -2,7 +2,7 @@
 use mathlib.Core.Path.{_≡_, refl, sym, ap, _∙_}
 use mathlib.Core.Logic.{_≢_}
 use Prim.Native.Nat.{ℕ, _+_, _*_, _<_, _≤_}
-use mathlib.Core.Bool.{Bool, true, false, cond, not, _&&_, _||_, and-false}
+use mathlib.Core.Bool.{Bool, true, false, cond, not, _&&_, _||_, and-false, and-assoc, or-false}
 use mathlib.Core.List.{List}
 use native.Mathlib.Omega.{arith}
 use native.Mathlib.Decide.{ℕ-discrete}
@@ -21,14 +21,6 @@ use Rattle.plant.specs.Checks.{entryBelow}
 use Rattle.choice.specs.Table.{linkIn, groupChoice, ChoicesIn}
 use Rattle.calls.specs.Work.{madeAt, NeedIn, Needed, Remembered, blankIn, wishKnown, wishIn, pickIn, lackingIn, Reached, SetDone, RowDone}
 use Rattle.calls.proofs.Known.{known}
-
-or-off : (a : Bool) → a || false ≡ a
-or-off true = refl
-or-off false = refl
-
-assoc : (a b c : Bool) → (a && b) && c ≡ a && (b && c)
-assoc true b c = refl
-assoc false b c = refl
 
 pub none-made : (sets group level lattice requirement rights : List ℕ) (groups tanks : ℕ) → Remembered sets group level lattice requirement rights groups tanks (replicate 128 254) (replicate 16 0)
 none-made sets group level lattice requirement rights groups tanks = record {
@@ -49,7 +41,7 @@ module _ (rights : List ℕ) (t : ℕ) where
   pub need-with : (g need r : ℕ) → getD rights (t * 8 + g) 0 ≢ 0 → NeedIn rights t g need → ((j : ℕ) → bit r j ≡ bit need j || eqb g j) → NeedIn rights t (g + 1) r
   need-with g need r n h e j = e j ∙ rw (h j) (elim (ℕ-discrete j g) [
     | yes z ↦ rw (z, eq-eqb g g refl, lt-ltb g (g + 1) (omega arith), ne-eqb _ _ n) (or-right (ltb g g && true) true refl)
-    | no z ↦ rw (ne-eqb g j (λ q. z (sym q)), ← next-but-own j g z) (or-off _)
+    | no z ↦ rw (ne-eqb g j (λ q. z (sym q)), ← next-but-own j g z) (or-false _)
   ])
 
   pub need-without : (g need : ℕ) → getD rights (t * 8 + g) 0 ≡ 0 → NeedIn rights t g need → NeedIn rights t (g + 1) need
@@ -95,7 +87,7 @@ module _ (sets group level lattice requirement rights levels : List ℕ) (groups
   -- a test of the groups of the set, and one of the groups on which the task names a right
   over-groups : (p q : ℕ → Bool) → ((g : ℕ) → g < groups → needs g && p g ≡ q g) → anyBelow (λ g. bit need g && p g) 8 ≡ anyBelow q groups
   over-groups p q e =
-      any-same 8 (λ g. bit need g && p g) (λ g. ltb g groups && (needs g && p g)) (λ g l. ap (λ x. x && p g) (n g) ∙ assoc (ltb g groups) (needs g) (p g))
+      any-same 8 (λ g. bit need g && p g) (λ g. ltb g groups && (needs g && p g)) (λ g l. ap (λ x. x && p g) (n g) ∙ and-assoc (ltb g groups) (needs g) (p g))
       ∙ any-upto 8 groups (λ g. needs g && p g) b
       ∙ any-same groups (λ g. needs g && p g) q e
 

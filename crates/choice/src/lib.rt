@@ -1,8 +1,7 @@
 // The choice of a tank from each group under each level: the nearest one at or under the level, and of several the one with the lowest number.
 ghost use mathlib.Core.Path.{_≡_};
-ghost use mathlib.Core.Bool.{true, cond, not, _&&_, _||_};
+ghost use mathlib.Core.Bool.{true, not, _&&_};
 ghost use Prim.Native.Nat.{ℕ, _+_, _*_, _<_, _≤_};
-ghost use lib.Dec.{eqb};
 ghost use lib.ListN.{length, getD};
 ghost use Rattle.base.specs.Below.{allBelow, anyBelow};
 ghost use Rattle.base.specs.Bits.{bit};

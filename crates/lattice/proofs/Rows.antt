@@ -5,9 +5,8 @@ use Prim.Native.Nat.{ℕ, _+_, _≤_, _<_}
 use native.Mathlib.Numerals.{add-one}
 use native.Mathlib.Omega.{arith}
 use native.Mathlib.Decide.{decLt, ℕ-discrete}
-use mathlib.Core.Bool.{Bool, true, false, not, _&&_, _||_, and-false}
+use mathlib.Core.Bool.{Bool, true, false, not, _&&_, and-false, or-false}
 use mathlib.Core.List.{List}
-use lib.Bits.{bitAnd}
 use lib.Dec.{eqb}
 use lib.ListN.{length, getD, set, replicate, length-replicate, getD-replicate, length-set}
 use lib.Seq.{getD-set-same, getD-set-other}
@@ -15,18 +14,14 @@ use borrow.Author.Tests.{eqb-true, eqb-false, eq-eqb, ne-eqb, not-true}
 use Rattle.base.specs.Below.{allBelow, anyBelow}
 use Rattle.base.specs.Bits.{bit}
 use Rattle.base.proofs.Logic.{split, true-false, same-test, and-true, and-both, not-is-true}
-use Rattle.base.proofs.Below.{all-at, all-yes, any-yes, any-none, any-some}
-use Rattle.base.proofs.Bits.{or-bit}
+use Rattle.base.proofs.Below.{all-at, all-yes, any-yes, any-some}
+use Rattle.base.proofs.Bits.{zero-bit, or-bit}
 use Rattle.base.proofs.Filled.{fill-at, fill-length}
-use Rattle.base.proofs.Shared.{Within, shared, shared-at, zero-bits}
+use Rattle.base.proofs.Shared.{Within, shared, shared-at}
 use Rattle.lattice.specs.Order.{Order}
 use Rattle.lattice.specs.Levels.{Layout, ordered}
 use Rattle.lattice.specs.Sets.{withSets, underIn, strictly, Strict, raisedAt, raised, isWithin}
 use Rattle.lattice.proofs.Laws.{order-iff}
-
-or-none : (b : Bool) → b ≡ b || false
-or-none true = refl
-or-none false = refl
 
 module _ (s : List ℕ) where
   -- x has, for each level below m, what lies strictly above it
@@ -58,7 +53,7 @@ module _ (s : List ℕ) where
 
   pub further-starts : FurtherTo 0 (replicate 16 0)
   unfolding anyBelow
-  further-starts = (length-replicate {A = ℕ} 16 0, λ i k p. rw (getD-replicate {A = ℕ} 16 i 0 0 p) (zero-bits k))
+  further-starts = (length-replicate {A = ℕ} 16 0, λ i k p. rw (getD-replicate {A = ℕ} 16 i 0 0 p) (zero-bit k))
 
   pub further-next : (m : ℕ) (x f : List ℕ) {after : List ℕ} → Strict s x → FurtherTo m f → after ≡ raised x m (getD s m 0) f → FurtherTo (m + 1) after
   unfolding anyBelow
@@ -67,7 +62,7 @@ module _ (s : List ℕ) where
     λ i k p. rw (e, fill-at (raisedAt x m (getD s m 0) f) f 16 i 0 (omega (arith, b .0)) p, add-one, ← b .1 i k p, ← a i m p)
         (split (bit (getD x i 0) m)
         (λ h. rw h (or-bit (getD f i 0) (getD s m 0) k))
-        (λ h. rw h (or-none _))),
+        (λ h. rw h (sym (or-false _)))),
   )
 
 module _ (n : ℕ) (s : List ℕ) (y : Layout (withSets n s)) where
@@ -76,7 +71,7 @@ module _ (n : ℕ) (s : List ℕ) (y : Layout (withSets n s)) where
   used i j p u = (
     elim (decLt i n) [
       | yes l ↦ l
-      | no l ↦ absurd (true-false (sym u ∙ ap (λ (x : ℕ). bit x j) (y .sets-from-n i (omega arith) p) ∙ zero-bits j))
+      | no l ↦ absurd (true-false (sym u ∙ ap (λ (x : ℕ). bit x j) (y .sets-from-n i (omega arith) p) ∙ zero-bit j))
     ],
     elim (decLt j n) [
       | yes l ↦ l

@@ -1,6 +1,6 @@
 -- `calls::start::need_of` meets its contract: the groups are looked at one after the other. Assumes nothing.
 use Prim.Native.Nat.{ℕ, _≤_, _-_}
-use mathlib.Core.Path.{sym, subst, _∙_}
+use mathlib.Core.Path.{subst, _∙_}
 use mathlib.Core.Logic.{⊎-elim}
 use native.Mathlib.Nat.{le-antisymm}
 use borrow.Author.Needs.{needs}
