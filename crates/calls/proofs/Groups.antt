@@ -4,7 +4,7 @@ use mathlib.Core.Path.{_≡_, refl, sym, ap, _∙_}
 use mathlib.Core.Logic.{_≢_}
 use Prim.Native.Nat.{ℕ, _^_, _<_}
 use native.Mathlib.Omega.{arith}
-use mathlib.Core.Bool.{Bool, true, false, cond, not, _&&_, and-false}
+use mathlib.Core.Bool.{Bool, true, false, cond, not, _&&_, and-false, and-not-self}
 use mathlib.Core.Bool as bool
 use mathlib.Core.List.{List, [], _∷_}
 use lib.Count.{trailingZeros}
@@ -51,44 +51,38 @@ not-28 false false z h = refl
 abbrev seen : ℕ → ℕ → ℕ → Bool
 seen need rest g = bit need g && not (bit rest g)
 
-none-seen : (b : Bool) → b && not b ≡ false
-none-seen true = refl
-none-seen false = refl
+-- a group has no level, or no tank is found for it
+abbrev unset : List ℕ → List ℕ → ℕ → ℕ → ℕ → Bool
+unset requirement levels s t g = eqb (wishIn requirement levels s t g) 255
+
+abbrev lacks : (ℕ → ℕ → ℕ) → List ℕ → List ℕ → ℕ → ℕ → ℕ → Bool
+lacks found requirement levels s t g = eqb (foundIn found requirement levels s t g) 255
 
 module _ (found : ℕ → ℕ → ℕ) (requirement levels : List ℕ) (s t need : ℕ) where
-  abbrev unset : ℕ → Bool
-  unset g = eqb (wishIn found requirement levels s t g) 255
-
-  abbrev got : ℕ → ℕ
-  got = foundIn found requirement levels s t
-
-  abbrev lacks : ℕ → Bool
-  lacks g = eqb (got g) 255
-
   -- what the loop knows when `rest` is left of the set
   pub record RowSoFar (rest number : ℕ) (row : List ℕ) : Type 0 where
     pub part : (g : ℕ) → bit rest g ≡ true → bit need g ≡ true
-    pub all-set : (g : ℕ) → seen need rest g ≡ true → unset g ≡ false
-    pub answers : number ≡ cond (anyBelow (λ g. seen need rest g && lacks g) 8) 28 0
+    pub all-set : (g : ℕ) → seen need rest g ≡ true → unset requirement levels s t g ≡ false
+    pub answers : number ≡ cond (anyBelow (λ g. seen need rest g && lacks found requirement levels s t g) 8) 28 0
     pub size : length row ≡ 8
-    pub chooses : (g : ℕ) → g < 8 → getD row g 0 ≡ cond (seen need rest g) (got g) 255
+    pub chooses : (g : ℕ) → g < 8 → getD row g 0 ≡ cond (seen need rest g) (foundIn found requirement levels s t g) 255
 
   pub none-yet : {row : List ℕ} → row ≡ replicate 8 255 → RowSoFar need 0 row
   none-yet e = record {
     part = λ g h. h;
-    all-set = λ g h. absurd (let z : _≡_ {A = Bool} true false = sym h ∙ none-seen (bit need g) in true-false z);
-    answers = sym (rw (any-none 8 (λ g. seen need need g && lacks g) (λ g l. rw (none-seen (bit need g)))));
+    all-set = λ g h. absurd (let z : _≡_ {A = Bool} true false = sym h ∙ and-not-self (bit need g) in true-false z);
+    answers = sym (rw (any-none 8 (λ g. seen need need g && lacks found requirement levels s t g) (λ g l. rw (and-not-self (bit need g)))));
     size = rw e (length-replicate {A = ℕ} 8 255);
-    chooses = λ g l. rw (e, none-seen (bit need g)) (getD-replicate {A = ℕ} 8 g 255 0 l);
+    chooses = λ g l. rw (e, and-not-self (bit need g)) (getD-replicate {A = ℕ} 8 g 255 0 l);
   }
 
 module _ {found : ℕ → ℕ → ℕ} {requirement levels : List ℕ} {s t need rest number : ℕ} {row : List ℕ}
     (v : RowSoFar found requirement levels s t need rest number row) where
   abbrev p : ℕ → Bool
-  p = unset found requirement levels s t need
+  p = unset requirement levels s t
 
   abbrev q : ℕ → Bool
-  q = lacks found requirement levels s t need
+  q = lacks found requirement levels s t
 
   small : (x : ℕ) → Reached requirement levels s t need → ((g : ℕ) → bit x g ≡ true → bit need g ≡ true) → x < 2 ^ 16
   small x r e =
@@ -109,11 +103,11 @@ module _ {found : ℕ → ℕ → ℕ} {requirement levels : List ℕ} {s t need
           any-same 8 (λ g. seen need rest g && q g) (λ g. bit need g && q g) (λ g l. rw (same g)),
           any-none 8 (λ g. bit need g && p g) (λ g l. split (bit need g) (λ b. rw (b, v .all-set g (same g ∙ b))) (λ b. rw b)),
         );
-        chooses = λ y. ext-getD 0 row (fill (λ g. cond (bit need g) (got found requirement levels s t need g) 255) (replicate 8 255) 8)
+        chooses = λ y. ext-getD 0 row (fill (λ g. cond (bit need g) (foundIn found requirement levels s t g) 255) (replicate 8 255) 8)
             (v .size ∙ sym (fill-length _ (replicate 8 255) 8 ∙ length-replicate {A = ℕ} 8 255))
             (λ g l.
             let m : g < 8 = omega (arith, l, v .size) in
-            v .chooses g m ∙ rw (same g) (sym (fill-at (λ g. cond (bit need g) (got found requirement levels s t need g) 255) (replicate 8 255) 8 g 0 (omega (arith, length-replicate {A = ℕ} 8 255)) m)));
+            v .chooses g m ∙ rw (same g) (sym (fill-at (λ g. cond (bit need g) (foundIn found requirement levels s t g) 255) (replicate 8 255) 8 g 0 (omega (arith, length-replicate {A = ℕ} 8 255)) m)));
       }
 
   -- n is the number of group g by itself, which is in the rest, and `left` the rest without it
@@ -142,10 +136,10 @@ module _ {found : ℕ → ℕ → ℕ} {requirement levels : List ℕ} {s t need
       is-set : p g ≡ false
       is-set = not-27 (p g) (q g) (λ z. e (d .answers ∙ z))
 
-      placed : row′ ≡ set row g (got found requirement levels s t need g)
+      placed : row′ ≡ set row g (foundIn found requirement levels s t g)
       placed = d .chooses ∙ rw is-set
 
-      -- whatever the number is: it is right where it is said which groups lack a tank
+      -- the loop goes on, with a number that says whether a group seen so far lacks a tank
       go-on : {number′ : ℕ} → number′ ≡ cond (anyBelow (λ j. seen need left j && q j) 8) 28 0 → RowSoFar found requirement levels s t need left number′ row′
       go-on a = record {
         part = part-left;
@@ -155,8 +149,8 @@ module _ {found : ℕ → ℕ → ℕ} {requirement levels : List ℕ} {s t need
         answers = a;
         size = rw placed (simp length-set (v .size));
         chooses = λ j m. split (eqb g j)
-            (λ z. rw (placed, ← eqb-true g j z, seen-own) (getD-set-same row g (got found requirement levels s t need g) 0 (omega (arith, l, v .size))))
-            (λ z. rw (placed, seen-other j z) (getD-set-other row g j (got found requirement levels s t need g) 0 (λ e. eqb-false g j z (sym e)) ∙ v .chooses j m));
+            (λ z. rw (placed, ← eqb-true g j z, seen-own) (getD-set-same row g (foundIn found requirement levels s t g) 0 (omega (arith, l, v .size))))
+            (λ z. rw (placed, seen-other j z) (getD-set-other row g j (foundIn found requirement levels s t g) 0 (λ e. eqb-false g j z (sym e)) ∙ v .chooses j m));
       }
 
       pub becomes-28 : {number′ : ℕ} → n ≡ 28 → number′ ≡ 28 → RowSoFar found requirement levels s t need left number′ row′

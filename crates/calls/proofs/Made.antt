@@ -50,7 +50,7 @@ module _ (rights : List ℕ) (t : ℕ) where
     | no z ↦ rw (next-but-own j g z)
   ]
 
--- the set of a task, put where none was
+-- the set of a task, put in its place
 pub need-put : (rights : List ℕ) (groups : ℕ) (needs : List ℕ) (t need : ℕ) → t < 16 → Needed rights groups needs → NeedIn rights t groups need → Needed rights groups (set needs t need)
 need-put rights groups needs t need l n h = record {
   size = simp length-set (n .size);
@@ -61,7 +61,7 @@ need-put rights groups needs t need l n h = record {
 }
 
 -- the requirements of the groups, from their links
-pub requirements-there : (lattice requirement : List ℕ) (groups : ℕ) → allBelow (linkIn lattice requirement) groups ≡ true → allBelow (entryBelow requirement 8) groups ≡ true
+requirements-there : (lattice requirement : List ℕ) (groups : ℕ) → allBelow (linkIn lattice requirement) groups ≡ true → allBelow (entryBelow requirement 8) groups ≡ true
 requirements-there lattice requirement groups h = all-yes groups (entryBelow requirement 8) (λ g l. and-true (ltb (getD requirement g 0) 8) (ltb (getD lattice (getD requirement g 0) 0) 8) (all-at groups (linkIn lattice requirement) h g l) .0)
 
 -- the groups of the set are there
@@ -78,18 +78,18 @@ module _ (sets group level lattice requirement rights levels : List ℕ) (groups
   found = groupChoice sets group level lattice requirement tanks
 
   abbrev wish : ℕ → ℕ
-  wish = wishIn found requirement levels s t
+  wish = wishIn requirement levels s t
 
   -- the task names a right on group g
-  abbrev needs : ℕ → Bool
-  needs g = not (eqb (getD rights (t * 8 + g) 0) 0)
+  abbrev named : ℕ → Bool
+  named g = not (eqb (getD rights (t * 8 + g) 0) 0)
 
   -- a test of the groups of the set, and one of the groups on which the task names a right
-  over-groups : (p q : ℕ → Bool) → ((g : ℕ) → g < groups → needs g && p g ≡ q g) → anyBelow (λ g. bit need g && p g) 8 ≡ anyBelow q groups
+  over-groups : (p q : ℕ → Bool) → ((g : ℕ) → g < groups → named g && p g ≡ q g) → anyBelow (λ g. bit need g && p g) 8 ≡ anyBelow q groups
   over-groups p q e =
-      any-same 8 (λ g. bit need g && p g) (λ g. ltb g groups && (needs g && p g)) (λ g l. ap (λ x. x && p g) (n g) ∙ and-assoc (ltb g groups) (needs g) (p g))
-      ∙ any-upto 8 groups (λ g. needs g && p g) b
-      ∙ any-same groups (λ g. needs g && p g) q e
+      any-same 8 (λ g. bit need g && p g) (λ g. ltb g groups && (named g && p g)) (λ g l. ap (λ x. x && p g) (n g) ∙ and-assoc (ltb g groups) (named g) (p g))
+      ∙ any-upto 8 groups (λ g. named g && p g) b
+      ∙ any-same groups (λ g. named g && p g) q e
 
   -- what the table has for a group whose level is set is the choice
   same-found : (g : ℕ) → g < groups → eqb (wish g) 255 ≡ false → madeAt made g (wish g) ≡ found g (wish g)
@@ -101,7 +101,7 @@ module _ (sets group level lattice requirement rights levels : List ℕ) (groups
       split (anyBelow (blankIn requirement rights levels s t) groups)
       (λ z. let e : number ≡ 27 = rw (blank, z) at (d .answers) in record { answers = e ∙ sym (rw z); chooses = λ y. absurd (omega (arith, y, e)) })
       (λ z.
-      let same : (g : ℕ) → g < groups → needs g ≡ true → madeAt made g (wish g) ≡ found g (wish g)
+      let same : (g : ℕ) → g < groups → named g ≡ true → madeAt made g (wish g) ≡ found g (wish g)
       = λ g l x. same-found g l (rw x at (any-no groups (blankIn requirement rights levels s t) z g l)) in
       record {
         answers = d .answers ∙ rw (

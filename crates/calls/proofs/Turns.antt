@@ -10,7 +10,7 @@ use Rattle.rules.specs.declared.Monitor.{Monitor}
 use Rattle.rules.specs.Rules.{conditions, refusal, granted, answer}
 use Rattle.rules.specs.Record.{viewOf, intact, stepped}
 use Rattle.calls.specs.Work.{callBy, Lent, Turned}
-use Rattle.calls.proofs.Ready.{lattices-there, links-there, groups-there, groups-counted, levels-there, tasks-known, wishes-known}
+use Rattle.calls.proofs.Ready.{lattices-there, links-there, groups-counted, levels-there, tasks-known, wishes-known}
 use Rattle.calls.proofs.Meet.{set-answer, set-record, start-answer, start-record, stop-answer, stop-record, gate-answer, gate-record}
 
 -- what a request leans on
@@ -18,7 +18,6 @@ pub lent : (m : Monitor) → intact (m .plant) m ≡ true → Lent (m .plant .la
 lent m i = record {
   lattices-there = lattices-there m i;
   links-there = links-there m i;
-  groups-there = groups-there m i;
   groups-counted = groups-counted m i;
   levels-there = levels-there m i;
   tasks-known = tasks-known m i;

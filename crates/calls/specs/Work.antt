@@ -66,15 +66,18 @@ grantedIn group granted chosen s o r = eqb (getD chosen (chosenAt s (getD group 
 abbrev pub gateBy : List ℕ → List ℕ → List ℕ → ℕ → ℕ → ℕ → ℕ → ℕ → ℕ
 gateBy group granted chosen skids tanks s o r = gateNumber skids tanks s o r (grantedIn group granted chosen s o r)
 
--- start: a group on which the task names a right has no level
+-- start: the level that the skid has for the requirement of group g, and that it has none for a group on which the task names a right
+abbrev pub wishIn : List ℕ → List ℕ → ℕ → ℕ → ℕ → ℕ
+wishIn requirement levels s t g = getD levels (levelAt s t (getD requirement g 0)) 0
+
 abbrev pub blankIn : List ℕ → List ℕ → List ℕ → ℕ → ℕ → ℕ → Bool
-blankIn requirement rights levels s t g = not (eqb (getD rights (t * 8 + g) 0) 0) && eqb (getD levels (levelAt s t (getD requirement g 0)) 0) 255
+blankIn requirement rights levels s t g = not (eqb (getD rights (t * 8 + g) 0) 0) && eqb (wishIn requirement levels s t g) 255
 
 -- what a table of choices has for group g and level v
 abbrev pub madeAt : List ℕ → ℕ → ℕ → ℕ
 madeAt made g v = getD made (g * 16 + v) 0
 
--- The table depends on the plant alone. It is made at the first start of a list: entry 0 is 254 before, which no choice is.
+-- The table depends on the plant alone. It is made at the first start of a list that passes 26: entry 0 is 254 before, which no choice is.
 pub record Tabled (sets group level lattice requirement : List ℕ) (groups tanks : ℕ) (made : List ℕ) : Type 0 where
   pub size : length made ≡ 128
   pub right : getD made 0 0 ≢ 254 → ChoicesIn sets group level lattice requirement groups tanks made
@@ -83,7 +86,8 @@ pub record Tabled (sets group level lattice requirement : List ℕ) (groups tank
 abbrev pub NeedIn : List ℕ → ℕ → ℕ → ℕ → Type 0
 NeedIn rights t groups need = (g : ℕ) → bit need g ≡ ltb g groups && not (eqb (getD rights (t * 8 + g) 0) 0)
 
--- The sets of all tasks. Each is made at the first start of its task in a list, and is empty before.
+-- The sets of all tasks. Each is made at the first start of its task in a list that passes 26, and is empty before; that of a task without a right
+-- stays so.
 pub record Needed (rights : List ℕ) (groups : ℕ) (needs : List ℕ) : Type 0 where
   pub size : length needs ≡ 16
   pub right : (t : ℕ) → t < 16 → getD needs t 0 ≢ 0 → NeedIn rights t groups (getD needs t 0)
@@ -97,7 +101,7 @@ pub record Remembered (sets group level lattice requirement rights : List ℕ) (
 -- gets none.
 abbrev pub pickIn : (ℕ → ℕ → ℕ) → List ℕ → List ℕ → List ℕ → ℕ → ℕ → ℕ → ℕ
 pickIn found requirement rights levels s t g =
-    cond (eqb (getD rights (t * 8 + g) 0) 0) 255 (found g (getD levels (levelAt s t (getD requirement g 0)) 0))
+    cond (eqb (getD rights (t * 8 + g) 0) 0) 255 (found g (wishIn requirement levels s t g))
 
 abbrev pub rowIn : (ℕ → ℕ → ℕ) → List ℕ → List ℕ → List ℕ → ℕ → ℕ → ℕ → List ℕ
 rowIn found requirement rights levels s t groups = fill (pickIn found requirement rights levels s t) (replicate 8 255) groups
@@ -123,21 +127,18 @@ module _ (found : ℕ → ℕ → ℕ) (requirement rights levels : List ℕ) (s
 
 -- the same by the set of the groups that the task needs
 module _ (found : ℕ → ℕ → ℕ) (requirement levels : List ℕ) (s t : ℕ) where
-  -- the level that the skid has for the requirement of group g, and the tank that is found for it
-  abbrev pub wishIn : ℕ → ℕ
-  wishIn g = getD levels (levelAt s t (getD requirement g 0)) 0
-
+  -- the tank that is found for the level of group g
   abbrev pub foundIn : ℕ → ℕ
-  foundIn g = found g (wishIn g)
+  foundIn g = found g (wishIn requirement levels s t g)
 
   -- what is found at one group, whose tank goes to the row
   pub record GroupDone (g : ℕ) (row : List ℕ) (number : ℕ) (row′ : List ℕ) : Type 0 where
-    pub answers : number ≡ first (eqb (wishIn g) 255 gives 27 ∷ eqb (foundIn g) 255 gives 28 ∷ [])
-    pub chooses : row′ ≡ cond (eqb (wishIn g) 255) row (ListN.set row g (foundIn g))
+    pub answers : number ≡ first (eqb (wishIn requirement levels s t g) 255 gives 27 ∷ eqb (foundIn g) 255 gives 28 ∷ [])
+    pub chooses : row′ ≡ cond (eqb (wishIn requirement levels s t g) 255) row (ListN.set row g (foundIn g))
 
   -- and over the groups of the set `need`
   pub record SetDone (need number : ℕ) (row′ : List ℕ) : Type 0 where
-    pub answers : number ≡ first (anyBelow (λ g. bit need g && eqb (wishIn g) 255) 8 gives 27 ∷ anyBelow (λ g. bit need g && eqb (foundIn g) 255) 8 gives 28 ∷ [])
+    pub answers : number ≡ first (anyBelow (λ g. bit need g && eqb (wishIn requirement levels s t g) 255) 8 gives 27 ∷ anyBelow (λ g. bit need g && eqb (foundIn g) 255) 8 gives 28 ∷ [])
     pub chooses : number ≡ 0 → row′ ≡ fill (λ g. cond (bit need g) (foundIn g) 255) (replicate 8 255) 8
 
 -- each group of the set is there, and its level is unset or a level
@@ -205,7 +206,6 @@ module _ (sizes sets lattice requirement group level rights may levels running c
 pub record Lent (lattice requirement group level levels running : List ℕ) (skids tasks requirements groups tanks : ℕ) : Type 0 where
   pub lattices-there : allBelow (entryBelow lattice 8) requirements ≡ true
   pub links-there : allBelow (linkIn lattice requirement) groups ≡ true
-  pub groups-there : allBelow (entryBelow group 8) tanks ≡ true
   pub groups-counted : allBelow (entryBelow group groups) tanks ≡ true
   pub levels-there : allBelow (entryBelow level 16) tanks ≡ true
   pub tasks-known : allBelow (taskKnown running) skids ≡ true

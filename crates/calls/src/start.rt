@@ -15,7 +15,7 @@ use choice::make_choices;
 use lattice::with_one;
 use lattice::without_one;
 
-// Makes the table of choices where it is not made yet, at the first start of a list: entry 0 is 254 until then, which no choice is.
+// Makes the table of choices where it is not made yet, at the first start of a list that passes 26: entry 0 is 254 until then, which no choice is.
 fn make_once<'a>(
     sets: &'a [u16; 128],
     group: &'a [u8; 64],
@@ -62,8 +62,8 @@ fn need_of(rights: &[u8; 128], t: usize, groups: u8) -> u16
     need
 }
 
-// The same, made at the first start of the task in a list and looked up at the others. The empty set stands for one that is not made yet; a
-// task without a right is looked at anew.
+// The same, made at the first start of the task in a list that passes 26 and looked up at the others. The empty set stands for one that is not
+// made yet; a task without a right is looked at anew.
 fn need_once<'a>(rights: &'a [u8; 128], needs: &mut [u16; 16], t: usize, groups: u8) -> u16
     requires { ⌜ (t < 16) × (groups ≤ 8) ⌝ }
     requires { ⌜ Needed (now rights) groups (now needs) ⌝ }

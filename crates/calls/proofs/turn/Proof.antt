@@ -1,22 +1,30 @@
 -- `calls::turn` meets its contract: each kind is its call's work. Assumes nothing.
 use mathlib.Core.Path.{_≡_, _∙_}
+use mathlib.Core.Bool.{true}
 use native.Mathlib.Omega.{arith}
 use borrow.Author.Tests.{ne-eqb}
+use Rattle.base.specs.Below.{allBelow}
+use Rattle.plant.specs.Checks.{entryBelow}
+use Rattle.choice.proofs.Table.{entries-wider}
 use Rattle.calls.proofs.Grants.{gate-by, stop-granted}
 use Rattle.calls.proofs.turn.Statement.{statement}
 use Rattle.calls.proofs.turn.Tie as tie
 
+-- the group of each tank is one of eight
+groups-there : (s : tie.Start) → allBelow (entryBelow (s .args .group .now) 8) (s .args .tanks) ≡ true
+groups-there s = entries-wider (s .args .group .now) (s .args .groups) 8 (s .args .tanks) (s .pre .0 .1 .1 .1 .0) (s .pre .1 .0 .groups-counted)
+
 gate-at-requires : tie.Need-gate-at-requires
 gate-at-requires c κs =
     let s = c .before .before .before .before in
-    ((s .pre .0 .0, s .pre .0 .1 .1 .1 .1), s .pre .1 .0 .groups-there)
+    ((s .pre .0 .0, s .pre .0 .1 .1 .1 .1), groups-there s)
 
 returns : tie.Need-returns
 returns c =
     let k = c .before .before .before .if2 .taken in
     let s = c .before .before .before .before .before in
     let m = s .args in
-    let e = c .gate-at .ensures ∙ gate-by (m .group .now) (m .rights .now) (m .running .now) (m .chosen .now) (m .tanks) (s .pre .1 .1 .1) (s .pre .1 .0 .groups-there) (m .a) (m .b) (m .c) in
+    let e = c .gate-at .ensures ∙ gate-by (m .group .now) (m .rights .now) (m .running .now) (m .chosen .now) (m .tanks) (s .pre .1 .1 .1) (groups-there s) (m .a) (m .b) (m .c) in
     (record { answers = e ∙ rw k; sets-levels = rw k; runs = rw k; chooses = rw k }, s .pre .1 .1)
 
 returns-2 : tie.Need-returns-2
