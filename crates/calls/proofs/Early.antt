@@ -11,7 +11,7 @@ use Rattle.base.specs.Chain.{first}
 use Rattle.base.proofs.Chain.{Numbered, clear, first-append}
 use Rattle.choice.specs.Table.{groupChoice}
 use Rattle.rules.specs.Record.{fillFrom}
-use Rattle.calls.specs.Work.{earlyTests, rowTests, getRow, startNumber, RowDone, Started}
+use Rattle.calls.specs.Work.{needsIn, earlyTests, rowTests, getRow, startNumber, RowDone, Started}
 
 module _ (may running : List ℕ) (skids tasks s t : ℕ) where
   numbered : Numbered (earlyTests may running skids tasks s t)
@@ -26,8 +26,8 @@ module _ (may running : List ℕ) (skids tasks s t : ℕ) where
 module _ (sets group level lattice requirement rights may levels running chosen : List ℕ) (skids tasks groups tanks s t : ℕ)
     {r : ℕ} (e : r ≡ first (earlyTests may running skids tasks s t)) where
   number : startNumber sets group level lattice requirement rights may levels running chosen skids tasks groups tanks s t
-      ≡ cond (eqb r 0) (first (rowTests (groupChoice sets group level lattice requirement tanks) requirement rights levels s t groups)) r
-  number = rw e (first-append (earlyTests may running skids tasks s t) (rowTests (groupChoice sets group level lattice requirement tanks) requirement rights levels s t groups) (numbered may running skids tasks s t))
+      ≡ cond (eqb r 0) (first (rowTests (groupChoice sets group level lattice requirement tanks) requirement levels s t (needsIn rights t) groups)) r
+  number = rw e (first-append (earlyTests may running skids tasks s t) (rowTests (groupChoice sets group level lattice requirement tanks) requirement levels s t (needsIn rights t) groups) (numbered may running skids tasks s t))
 
   refused : {n : ℕ} → startNumber sets group level lattice requirement rights may levels running chosen skids tasks groups tanks s t ≡ n → n ≢ 0
       → Started sets group level lattice requirement rights may levels running chosen skids tasks groups tanks s t n running chosen
@@ -36,7 +36,7 @@ module _ (sets group level lattice requirement rights may levels running chosen 
   pub started-early : r ≢ 0 → Started sets group level lattice requirement rights may levels running chosen skids tasks groups tanks s t r running chosen
   started-early h = refused (number ∙ rw (ne-eqb r 0 h)) h
 
-  module _ (z : r ≡ 0) {n : ℕ} {row : List ℕ} (d : RowDone (groupChoice sets group level lattice requirement tanks) requirement rights levels s t groups n row) where
+  module _ (z : r ≡ 0) {n : ℕ} {row : List ℕ} (d : RowDone (groupChoice sets group level lattice requirement tanks) requirement levels s t (needsIn rights t) groups n row) where
     last : startNumber sets group level lattice requirement rights may levels running chosen skids tasks groups tanks s t ≡ n
     last = number ∙ rw (z, d .answers)
 

@@ -15,14 +15,13 @@ use borrow.Author.Tests.{eqb-true, eqb-false, eq-eqb}
 use Rattle.base.specs.Below.{anyBelow}
 use Rattle.base.specs.Bits.{bit}
 use Rattle.base.specs.Chain.{_gives_, first}
-use Rattle.base.specs.Fill.{fill}
 use Rattle.base.proofs.Logic.{split, true-false, and-true, and-both}
 use Rattle.base.proofs.Below.{any-yes, any-none, any-same}
 use Rattle.base.proofs.Bits.{zero-bit}
 use Rattle.base.proofs.Shared.{within-lt}
 use Rattle.base.proofs.Members.{lowest-in, without-less}
 use Rattle.base.proofs.Filled.{fill-at, fill-length}
-use Rattle.calls.specs.Work.{wishIn, foundIn, Reached, GroupDone, SetDone}
+use Rattle.calls.specs.Work.{wishIn, foundIn, lackingIn, pickIn, rowIn, Reached, GroupDone, RowDone}
 
 -- a is that a level is unset, b that there is no tank
 abbrev numberOf : Bool → Bool → ℕ
@@ -51,27 +50,24 @@ not-28 false false z h = refl
 abbrev seen : ℕ → ℕ → ℕ → Bool
 seen need rest g = bit need g && not (bit rest g)
 
--- a group has no level, or no tank is found for it
+-- a group has no level
 abbrev unset : List ℕ → List ℕ → ℕ → ℕ → ℕ → Bool
 unset requirement levels s t g = eqb (wishIn requirement levels s t g) 255
-
-abbrev lacks : (ℕ → ℕ → ℕ) → List ℕ → List ℕ → ℕ → ℕ → ℕ → Bool
-lacks found requirement levels s t g = eqb (foundIn found requirement levels s t g) 255
 
 module _ (found : ℕ → ℕ → ℕ) (requirement levels : List ℕ) (s t need : ℕ) where
   -- what the loop knows when `rest` is left of the set
   pub record RowSoFar (rest number : ℕ) (row : List ℕ) : Type 0 where
     pub part : (g : ℕ) → bit rest g ≡ true → bit need g ≡ true
     pub all-set : (g : ℕ) → seen need rest g ≡ true → unset requirement levels s t g ≡ false
-    pub answers : number ≡ cond (anyBelow (λ g. seen need rest g && lacks found requirement levels s t g) 8) 28 0
+    pub answers : number ≡ cond (anyBelow (lackingIn found requirement levels s t (seen need rest)) 8) 28 0
     pub size : length row ≡ 8
-    pub chooses : (g : ℕ) → g < 8 → getD row g 0 ≡ cond (seen need rest g) (foundIn found requirement levels s t g) 255
+    pub chooses : (g : ℕ) → g < 8 → getD row g 0 ≡ pickIn found requirement levels s t (seen need rest) g
 
   pub none-yet : {row : List ℕ} → row ≡ replicate 8 255 → RowSoFar need 0 row
   none-yet e = record {
     part = λ g h. h;
     all-set = λ g h. absurd (let z : _≡_ {A = Bool} true false = sym h ∙ and-not-self (bit need g) in true-false z);
-    answers = sym (rw (any-none 8 (λ g. seen need need g && lacks found requirement levels s t g) (λ g l. rw (and-not-self (bit need g)))));
+    answers = sym (rw (any-none 8 (lackingIn found requirement levels s t (seen need need)) (λ g l. rw (and-not-self (bit need g)))));
     size = rw e (length-replicate {A = ℕ} 8 255);
     chooses = λ g l. rw (e, and-not-self (bit need g)) (getD-replicate {A = ℕ} 8 g 255 0 l);
   }
@@ -82,7 +78,7 @@ module _ {found : ℕ → ℕ → ℕ} {requirement levels : List ℕ} {s t need
   p = unset requirement levels s t
 
   abbrev q : ℕ → Bool
-  q = lacks found requirement levels s t
+  q g = eqb (foundIn found requirement levels s t g) 255
 
   small : (x : ℕ) → Reached requirement levels s t need → ((g : ℕ) → bit x g ≡ true → bit need g ≡ true) → x < 2 ^ 16
   small x r e =
@@ -95,7 +91,7 @@ module _ {found : ℕ → ℕ → ℕ} {requirement levels : List ℕ} {s t need
       let l = lowest-in 16 rest (omega (arith, n)) (small rest r (v .part)) in
       (r (trailingZeros 16 rest) (v .part (trailingZeros 16 rest) (l .1)) .0, l .1)
 
-  pub all-seen : rest ≡ 0 → SetDone found requirement levels s t need number row
+  pub all-seen : rest ≡ 0 → RowDone found requirement levels s t (bit need) 8 number row
   all-seen z =
       let same : (g : ℕ) → seen need rest g ≡ bit need g = λ g. rw (z, zero-bit g) (bool.and-true (bit need g)) in
       record {
@@ -103,17 +99,17 @@ module _ {found : ℕ → ℕ → ℕ} {requirement levels : List ℕ} {s t need
           any-same 8 (λ g. seen need rest g && q g) (λ g. bit need g && q g) (λ g l. rw (same g)),
           any-none 8 (λ g. bit need g && p g) (λ g l. split (bit need g) (λ b. rw (b, v .all-set g (same g ∙ b))) (λ b. rw b)),
         );
-        chooses = λ y. ext-getD 0 row (fill (λ g. cond (bit need g) (foundIn found requirement levels s t g) 255) (replicate 8 255) 8)
+        chooses = λ y. ext-getD 0 row (rowIn found requirement levels s t (bit need) 8)
             (v .size ∙ sym (fill-length _ (replicate 8 255) 8 ∙ length-replicate {A = ℕ} 8 255))
             (λ g l.
             let m : g < 8 = omega (arith, l, v .size) in
-            v .chooses g m ∙ rw (same g) (sym (fill-at (λ g. cond (bit need g) (foundIn found requirement levels s t g) 255) (replicate 8 255) 8 g 0 (omega (arith, length-replicate {A = ℕ} 8 255)) m)));
+            v .chooses g m ∙ rw (same g) (sym (fill-at (pickIn found requirement levels s t (bit need)) (replicate 8 255) 8 g 0 (omega (arith, length-replicate {A = ℕ} 8 255)) m)));
       }
 
   -- n is the number of group g by itself, which is in the rest, and `left` the rest without it
   module _ (g left : ℕ) {n : ℕ} {row′ : List ℕ} (l : g < 8) (h : bit rest g ≡ true) (w : (j : ℕ) → bit left j ≡ bit rest j && not (eqb g j))
       (d : GroupDone found requirement levels s t g row n row′) where
-    pub ends-27 : n ≡ 27 → SetDone found requirement levels s t need n row′
+    pub ends-27 : n ≡ 27 → RowDone found requirement levels s t (bit need) 8 n row′
     ends-27 e = record {
       answers = e ∙ sym (rw (any-yes 8 (λ g. bit need g && p g) g l (and-both _ _ (v .part g h) (is-27 (p g) (q g) (sym (d .answers) ∙ e)))));
       chooses = λ z. absurd (omega (arith, z, e));

@@ -2,7 +2,7 @@
 use mathlib.Core.Path.{_≡_, refl, sym, ap, _∙_}
 use mathlib.Core.Logic.{_≢_}
 use Prim.Native.Nat.{ℕ, _+_, _*_, _<_, _≤_}
-use mathlib.Core.Bool.{Bool, true, false, cond, not, _&&_, _||_, and-false, and-assoc, or-false}
+use mathlib.Core.Bool.{Bool, true, false, _&&_, _||_, and-false, and-assoc, or-false}
 use mathlib.Core.List.{List}
 use native.Mathlib.Omega.{arith}
 use native.Mathlib.Decide.{ℕ-discrete}
@@ -19,7 +19,7 @@ use Rattle.base.proofs.Filled.{fill-over}
 use Rattle.plant.proofs.Links.{entry-at}
 use Rattle.plant.specs.Checks.{entryBelow}
 use Rattle.choice.specs.Table.{linkIn, groupChoice, ChoicesIn}
-use Rattle.calls.specs.Work.{madeAt, NeedIn, Needed, Remembered, blankIn, wishKnown, wishIn, pickIn, lackingIn, Reached, SetDone, RowDone}
+use Rattle.calls.specs.Work.{needsIn, madeAt, NeedIn, Needed, Remembered, wishKnown, wishIn, blankIn, lackingIn, pickIn, Reached, RowDone}
 use Rattle.calls.proofs.Known.{known}
 
 pub none-made : (sets group level lattice requirement rights : List ℕ) (groups tanks : ℕ) → Remembered sets group level lattice requirement rights groups tanks (replicate 128 254) (replicate 16 0)
@@ -68,7 +68,7 @@ requirements-there lattice requirement groups h = all-yes groups (entryBelow req
 pub reached : (lattice requirement rights levels : List ℕ) (groups s t need : ℕ) → groups ≤ 8 → allBelow (linkIn lattice requirement) groups ≡ true → allBelow (wishKnown requirement levels s t) groups ≡ true
     → NeedIn rights t groups need → Reached requirement levels s t need
 reached lattice requirement rights levels groups s t need b h w n g e =
-    let l = ltb-true g groups (and-true (ltb g groups) (not (eqb (getD rights (t * 8 + g) 0) 0)) (sym (n g) ∙ e) .0) in
+    let l = ltb-true g groups (and-true (ltb g groups) (needsIn rights t g) (sym (n g) ∙ e) .0) in
     (omega (arith, l), (entry-at requirement 8 groups g (requirements-there lattice requirement groups h) l, all-at groups (wishKnown requirement levels s t) w g l))
 
 module _ (sets group level lattice requirement rights levels : List ℕ) (groups tanks s t need : ℕ) {made : List ℕ} (b : groups ≤ 8)
@@ -80,9 +80,8 @@ module _ (sets group level lattice requirement rights levels : List ℕ) (groups
   abbrev wish : ℕ → ℕ
   wish = wishIn requirement levels s t
 
-  -- the task names a right on group g
   abbrev named : ℕ → Bool
-  named g = not (eqb (getD rights (t * 8 + g) 0) 0)
+  named = needsIn rights t
 
   -- a test of the groups of the set, and one of the groups on which the task names a right
   over-groups : (p q : ℕ → Bool) → ((g : ℕ) → g < groups → named g && p g ≡ q g) → anyBelow (λ g. bit need g && p g) 8 ≡ anyBelow q groups
@@ -95,22 +94,22 @@ module _ (sets group level lattice requirement rights levels : List ℕ) (groups
   same-found : (g : ℕ) → g < groups → eqb (wish g) 255 ≡ false → madeAt made g (wish g) ≡ found g (wish g)
   same-found g l e = c .right g (wish g) l (known (wish g) 16 (all-at groups (wishKnown requirement levels s t) w g l) (eqb-false (wish g) 255 e))
 
-  pub by-choice : {number : ℕ} {row : List ℕ} → SetDone (madeAt made) requirement levels s t need number row → RowDone found requirement rights levels s t groups number row
+  pub by-choice : {number : ℕ} {row : List ℕ} → RowDone (madeAt made) requirement levels s t (bit need) 8 number row → RowDone found requirement levels s t named groups number row
   by-choice {number} d =
-      let blank = over-groups (λ g. eqb (wish g) 255) (blankIn requirement rights levels s t) (λ g l. refl) in
-      split (anyBelow (blankIn requirement rights levels s t) groups)
+      let blank = over-groups (λ g. eqb (wish g) 255) (blankIn requirement levels s t named) (λ g l. refl) in
+      split (anyBelow (blankIn requirement levels s t named) groups)
       (λ z. let e : number ≡ 27 = rw (blank, z) at (d .answers) in record { answers = e ∙ sym (rw z); chooses = λ y. absurd (omega (arith, y, e)) })
       (λ z.
       let same : (g : ℕ) → g < groups → named g ≡ true → madeAt made g (wish g) ≡ found g (wish g)
-      = λ g l x. same-found g l (rw x at (any-no groups (blankIn requirement rights levels s t) z g l)) in
+      = λ g l x. same-found g l (rw x at (any-no groups (blankIn requirement levels s t named) z g l)) in
       record {
         answers = d .answers ∙ rw (
           blank,
           z,
-          over-groups (λ g. eqb (madeAt made g (wish g)) 255) (lackingIn found requirement rights levels s t)
-              (λ g l. split (eqb (getD rights (t * 8 + g) 0) 0) (λ x. rw x) (λ x. rw (x, same g l (ap not x)))),
+          over-groups (λ g. eqb (madeAt made g (wish g)) 255) (lackingIn found requirement levels s t named)
+              (λ g l. split (named g) (λ x. rw (x, same g l x)) (λ x. rw x)),
         );
-        chooses = λ y. d .chooses y ∙ fill-over 255 (λ g. cond (bit need g) (madeAt made g (wish g)) 255) (pickIn found requirement rights levels s t) 8 groups b
-            (λ g l. rw (n g, lt-ltb g groups l) (split (eqb (getD rights (t * 8 + g) 0) 0) (λ x. rw x) (λ x. rw (x, same g l (ap not x)))))
+        chooses = λ y. d .chooses y ∙ fill-over 255 (pickIn (madeAt made) requirement levels s t (bit need)) (pickIn found requirement levels s t named) 8 groups b
+            (λ g l. rw (n g, lt-ltb g groups l) (split (named g) (λ x. rw (x, same g l x)) (λ x. rw x)))
             (λ g m l. rw (n g, le-ltb g groups m));
       })

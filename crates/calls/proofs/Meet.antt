@@ -23,7 +23,7 @@ use Rattle.rules.specs.declared.Monitor.{Monitor}
 use Rattle.rules.specs.Rules.{set, start, stop, gate, View, blankAt, blank, lacking, holds, conditions, refusal, granted, answer, pickFor}
 use Rattle.rules.specs.Record.{viewOf, levelAt, chosenAt, fillFrom, changed, stepped, intact}
 use Rattle.choice.specs.Table.{groupChoice}
-use Rattle.calls.specs.Work.{setNumber, setLevels, heldIn, gateAnswer, blankIn, pickIn, rowIn, lackingIn, startRow, startNumber, getRow, stopNumber, stopRunning, stopChosen}
+use Rattle.calls.specs.Work.{needsIn, setNumber, setLevels, heldIn, gateAnswer, foundIn, blankIn, pickIn, rowIn, lackingIn, startRow, startNumber, getRow, stopNumber, stopRunning, stopChosen}
 use Rattle.rules.proofs.Accepted.{start-ok}
 use Rattle.calls.proofs.Rows.{row-same}
 use Rattle.calls.proofs.Ready.{plant-valid}
@@ -100,48 +100,55 @@ module _ (m : Monitor) (i : intact (m .plant) m ≡ true) where
     wish : ℕ → ℕ
     wish = (vs s) .level t
 
-    blank-same : anyBelow (blankIn (P .requirement) (P .rights) (m .levels) s t) (P .groups) ≡ blank P t wish
-    unfolding blank blankAt wish
-    blank-same = any-same (P .groups) (blankIn (P .requirement) (P .rights) (m .levels) s t) (blankAt P t wish) (λ g c. rw (level-is s t g a b c))
+    abbrev found : ℕ → ℕ → ℕ
+    found = groupChoice (P .sets) (P .group) (P .level) (P .lattice) (P .requirement) (P .tanks)
 
-    -- the work's pick is the rules'
-    pick-same : (g : ℕ) → g < P .groups → pickIn (groupChoice (P .sets) (P .group) (P .level) (P .lattice) (P .requirement) (P .tanks)) (P .requirement) (P .rights) (m .levels) s t g ≡ pickFor P t wish g
-    unfolding pickFor wish
+    abbrev named : ℕ → Bool
+    named = needsIn (P .rights) t
+
+    blank-same : anyBelow (blankIn (P .requirement) (m .levels) s t named) (P .groups) ≡ blank P t wish
+    unfolding blank blankAt wish
+    blank-same = any-same (P .groups) (blankIn (P .requirement) (m .levels) s t named) (blankAt P t wish) (λ g c. rw (level-is s t g a b c))
+
+    -- the tank that the work finds is the choice, and its pick the rules'
+    found-same : (g : ℕ) → g < P .groups → foundIn found (P .requirement) (m .levels) s t g ≡ choice P g wish
+    unfolding wish
+    found-same g c = ap (λ (v : ℕ). choiceIn (P .sets) (P .group) (P .level) (latticeOf P (requirementOf P g)) g v (P .tanks)) (sym (level-is s t g a b c)) ∙ search-choice P g ((vs s) .level t)
+
+    pick-same : (g : ℕ) → g < P .groups → pickIn found (P .requirement) (m .levels) s t named g ≡ pickFor P t wish g
+    unfolding pickFor
     pick-same g c =
         split (eqb (rightsOf P t g) 0)
         (λ h. rw (lt-ltb g (P .groups) c, h))
-        (λ h. rw (lt-ltb g (P .groups) c, h) (ap (λ (v : ℕ). choiceIn (P .sets) (P .group) (P .level) (latticeOf P (requirementOf P g)) g v (P .tanks)) (sym (level-is s t g a b c)) ∙ search-choice P g ((vs s) .level t)))
+        (λ h. rw (lt-ltb g (P .groups) c, h) (found-same g c))
 
     row : List ℕ
-    row = rowIn (groupChoice (P .sets) (P .group) (P .level) (P .lattice) (P .requirement) (P .tanks)) (P .requirement) (P .rights) (m .levels) s t (P .groups)
+    row = rowIn found (P .requirement) (m .levels) s t named (P .groups)
 
     row-at : (g : ℕ) → g < P .groups → getD row g 0 ≡ pickFor P t wish g
     unfolding row
     row-at g c =
-        fill-at (pickIn (groupChoice (P .sets) (P .group) (P .level) (P .lattice) (P .requirement) (P .tanks)) (P .requirement) (P .rights) (m .levels) s t) (replicate 8 255) (P .groups) g 0 (omega (arith, length-replicate {A = ℕ} 8 255, X .counts .groups-fit)) c
+        fill-at (pickIn found (P .requirement) (m .levels) s t named) (replicate 8 255) (P .groups) g 0 (omega (arith, length-replicate {A = ℕ} 8 255, X .counts .groups-fit)) c
         ∙ pick-same g c
 
     row-past : (g : ℕ) → g < 8 → P .groups ≤ g → getD row g 0 ≡ pickFor P t wish g
     unfolding row pickFor
     row-past g l c =
-        fill-past (pickIn (groupChoice (P .sets) (P .group) (P .level) (P .lattice) (P .requirement) (P .tanks)) (P .requirement) (P .rights) (m .levels) s t) (replicate 8 255) (P .groups) g 0 c
+        fill-past (pickIn found (P .requirement) (m .levels) s t named) (replicate 8 255) (P .groups) g 0 c
         ∙ getD-replicate 8 g 255 0 l ∙ sym (rw (le-ltb g (P .groups) c))
 
     row-is : (g : ℕ) → g < 8 → getRow row g ≡ pickFor P t wish g
     row-is g l = split (ltb g (P .groups)) (λ h. row-at g (ltb-true _ _ h)) (λ h. row-past g l (ltb-false _ _ h))
 
     -- a needed group has no tank exactly where the choice is 255
-    lacking-at : (g : ℕ) → g < P .groups → lackingIn (groupChoice (P .sets) (P .group) (P .level) (P .lattice) (P .requirement) (P .tanks)) (P .requirement) (P .rights) (m .levels) s t g ≡ needs P t g && not (served P g wish)
-    unfolding pickFor
-    lacking-at g c = rw (pick-same g c) (split (eqb (rightsOf P t g) 0) (λ h. rw h)
-        (λ h. rw (lt-ltb g (P .groups) c, h)
-        (split (served P g wish)
+    lacking-at : (g : ℕ) → g < P .groups → lackingIn found (P .requirement) (m .levels) s t named g ≡ needs P t g && not (served P g wish)
+    lacking-at g c = rw (found-same g c) (ap (λ x. needs P t g && x) (split (served P g wish)
         (λ y. rw y (ne-eqb (choice P g wish) 255 (λ z. omega (arith, z, choice-is P X g c wish y .is-nearest .is-tank, X .counts .tanks-fit))))
-        (λ y. rw y (eq-eqb (choice P g wish) 255 (choice-none P X g c wish y))))))
+        (λ y. rw y (eq-eqb (choice P g wish) 255 (choice-none P X g c wish y)))))
 
-    lacking-same : anyBelow (lackingIn (groupChoice (P .sets) (P .group) (P .level) (P .lattice) (P .requirement) (P .tanks)) (P .requirement) (P .rights) (m .levels) s t) (P .groups) ≡ lacking P t wish
+    lacking-same : anyBelow (lackingIn found (P .requirement) (m .levels) s t named) (P .groups) ≡ lacking P t wish
     unfolding lacking
-    lacking-same = any-same (P .groups) (lackingIn (groupChoice (P .sets) (P .group) (P .level) (P .lattice) (P .requirement) (P .tanks)) (P .requirement) (P .rights) (m .levels) s t) (λ g. needs P t g && not (served P g wish)) lacking-at
+    lacking-same = any-same (P .groups) (lackingIn found (P .requirement) (m .levels) s t named) (λ g. needs P t g && not (served P g wish)) lacking-at
 
   module _ (s t : ℕ) where
     abbrev number : ℕ

@@ -12,7 +12,7 @@ use Rattle.base.specs.Bits.{bit}
 use Rattle.base.specs.Chain.{Test, _gives_, first}
 use Rattle.base.specs.Fill.{fill}
 use Rattle.plant.specs.Checks.{entryBelow}
-use Rattle.choice.specs.Table.{linkIn, groupChoice, ChoicesIn}
+use Rattle.choice.specs.Table.{linkIn, groupChoice, Tabled}
 use Rattle.rules.specs.Rules.{Call}
 use Rattle.rules.specs.Rules as call
 use Rattle.rules.specs.Record.{levelAt, chosenAt, fillFrom}
@@ -45,9 +45,12 @@ gateNumber skids tanks s o r held = first (leb skids s gives 21 ∷ leb tanks o 
 abbrev pub gateAnswer : List ℕ → List ℕ → List ℕ → List ℕ → ℕ → ℕ → ℕ → ℕ → ℕ → ℕ
 gateAnswer group rights running chosen skids tanks s o r = gateNumber skids tanks s o r (heldIn group rights running chosen s o r)
 
--- the rights that task t names on group g
+-- the rights that task t names on group g, and that it names one there
 abbrev pub rightsIn : List ℕ → ℕ → ℕ → ℕ
 rightsIn rights t g = getD rights (t * 8 + g) 0
+
+abbrev pub needsIn : List ℕ → ℕ → ℕ → Bool
+needsIn rights t g = not (eqb (rightsIn rights t g) 0)
 
 -- those of the task that skid s runs, and none where it runs nothing
 abbrev pub grantIn : List ℕ → List ℕ → ℕ → ℕ → ℕ
@@ -66,25 +69,13 @@ grantedIn group granted chosen s o r = eqb (getD chosen (chosenAt s (getD group 
 abbrev pub gateBy : List ℕ → List ℕ → List ℕ → ℕ → ℕ → ℕ → ℕ → ℕ → ℕ
 gateBy group granted chosen skids tanks s o r = gateNumber skids tanks s o r (grantedIn group granted chosen s o r)
 
--- start: the level that the skid has for the requirement of group g, and that it has none for a group on which the task names a right
-abbrev pub wishIn : List ℕ → List ℕ → ℕ → ℕ → ℕ → ℕ
-wishIn requirement levels s t g = getD levels (levelAt s t (getD requirement g 0)) 0
-
-abbrev pub blankIn : List ℕ → List ℕ → List ℕ → ℕ → ℕ → ℕ → Bool
-blankIn requirement rights levels s t g = not (eqb (getD rights (t * 8 + g) 0) 0) && eqb (wishIn requirement levels s t g) 255
-
 -- what a table of choices has for group g and level v
 abbrev pub madeAt : List ℕ → ℕ → ℕ → ℕ
 madeAt made g v = getD made (g * 16 + v) 0
 
--- The table depends on the plant alone. It is made at the first start of a list that passes 26: entry 0 is 254 before, which no choice is.
-pub record Tabled (sets group level lattice requirement : List ℕ) (groups tanks : ℕ) (made : List ℕ) : Type 0 where
-  pub size : length made ≡ 128
-  pub right : getD made 0 0 ≢ 254 → ChoicesIn sets group level lattice requirement groups tanks made
-
 -- the groups on which task t names a right, as a set
 abbrev pub NeedIn : List ℕ → ℕ → ℕ → ℕ → Type 0
-NeedIn rights t groups need = (g : ℕ) → bit need g ≡ ltb g groups && not (eqb (getD rights (t * 8 + g) 0) 0)
+NeedIn rights t groups need = (g : ℕ) → bit need g ≡ ltb g groups && needsIn rights t g
 
 -- The sets of all tasks. Each is made at the first start of its task in a list that passes 26, and is empty before; that of a task without a right
 -- stays so.
@@ -92,42 +83,26 @@ pub record Needed (rights : List ℕ) (groups : ℕ) (needs : List ℕ) : Type 0
   pub size : length needs ≡ 16
   pub right : (t : ℕ) → t < 16 → getD needs t 0 ≢ 0 → NeedIn rights t groups (getD needs t 0)
 
--- what a list remembers from one request to the next
+-- what a list remembers from one request to the next: the table of choices, made at the first start that passes 26, and the sets
 pub record Remembered (sets group level lattice requirement rights : List ℕ) (groups tanks : ℕ) (made needs : List ℕ) : Type 0 where
   pub table : Tabled sets group level lattice requirement groups tanks made
   pub tasks : Needed rights groups needs
-
--- The tank for group g, and the row of them, where `found` says which tank a group has for a level. A group on which the task names no right
--- gets none.
-abbrev pub pickIn : (ℕ → ℕ → ℕ) → List ℕ → List ℕ → List ℕ → ℕ → ℕ → ℕ → ℕ
-pickIn found requirement rights levels s t g =
-    cond (eqb (getD rights (t * 8 + g) 0) 0) 255 (found g (wishIn requirement levels s t g))
-
-abbrev pub rowIn : (ℕ → ℕ → ℕ) → List ℕ → List ℕ → List ℕ → ℕ → ℕ → ℕ → List ℕ
-rowIn found requirement rights levels s t groups = fill (pickIn found requirement rights levels s t) (replicate 8 255) groups
 
 -- start's conditions: those that are asked before any group is looked at
 abbrev pub earlyTests : List ℕ → List ℕ → ℕ → ℕ → ℕ → ℕ → List Test
 earlyTests may running skids tasks s t =
     leb skids s gives 21 ∷ leb tasks t gives 22 ∷ not (bit (getD may s 0) t) gives 25 ∷ not (eqb (getD running s 0) 255) gives 26 ∷ []
 
--- and those of the groups: one that the task needs has no level (above), or no tank
-module _ (found : ℕ → ℕ → ℕ) (requirement rights levels : List ℕ) (s t : ℕ) where
-  abbrev pub lackingIn : ℕ → Bool
-  lackingIn g = not (eqb (getD rights (t * 8 + g) 0) 0) && eqb (pickIn found requirement rights levels s t g) 255
+-- the level that the skid has for the requirement of group g
+abbrev pub wishIn : List ℕ → List ℕ → ℕ → ℕ → ℕ → ℕ
+wishIn requirement levels s t g = getD levels (levelAt s t (getD requirement g 0)) 0
 
-  -- 27 of any group comes before 28 of any
-  abbrev pub rowTests : ℕ → List Test
-  rowTests groups = anyBelow (blankIn requirement rights levels s t) groups gives 27 ∷ anyBelow lackingIn groups gives 28 ∷ []
+-- and those of the groups: `needed` says on which of them the task names a right, and `found` which tank a group has for a level
+abbrev pub blankIn : List ℕ → List ℕ → ℕ → ℕ → (ℕ → Bool) → ℕ → Bool
+blankIn requirement levels s t needed g = needed g && eqb (wishIn requirement levels s t g) 255
 
-  -- what is found over all groups; nobody reads the row of a start that is refused
-  pub record RowDone (groups number : ℕ) (row′ : List ℕ) : Type 0 where
-    pub answers : number ≡ first (rowTests groups)
-    pub chooses : number ≡ 0 → row′ ≡ rowIn found requirement rights levels s t groups
-
--- the same by the set of the groups that the task needs
 module _ (found : ℕ → ℕ → ℕ) (requirement levels : List ℕ) (s t : ℕ) where
-  -- the tank that is found for the level of group g
+  -- the tank for the level of group g
   abbrev pub foundIn : ℕ → ℕ
   foundIn g = found g (wishIn requirement levels s t g)
 
@@ -136,10 +111,25 @@ module _ (found : ℕ → ℕ → ℕ) (requirement levels : List ℕ) (s t : �
     pub answers : number ≡ first (eqb (wishIn requirement levels s t g) 255 gives 27 ∷ eqb (foundIn g) 255 gives 28 ∷ [])
     pub chooses : row′ ≡ cond (eqb (wishIn requirement levels s t g) 255) row (ListN.set row g (foundIn g))
 
-  -- and over the groups of the set `need`
-  pub record SetDone (need number : ℕ) (row′ : List ℕ) : Type 0 where
-    pub answers : number ≡ first (anyBelow (λ g. bit need g && eqb (wishIn requirement levels s t g) 255) 8 gives 27 ∷ anyBelow (λ g. bit need g && eqb (foundIn g) 255) 8 gives 28 ∷ [])
-    pub chooses : number ≡ 0 → row′ ≡ fill (λ g. cond (bit need g) (foundIn g) 255) (replicate 8 255) 8
+  module _ (needed : ℕ → Bool) where
+    -- a group that is needed has no tank; and its tank, none where it is not needed
+    abbrev pub lackingIn : ℕ → Bool
+    lackingIn g = needed g && eqb (foundIn g) 255
+
+    abbrev pub pickIn : ℕ → ℕ
+    pickIn g = cond (needed g) (foundIn g) 255
+
+    abbrev pub rowIn : ℕ → List ℕ
+    rowIn groups = fill pickIn (replicate 8 255) groups
+
+    -- 27 of any group comes before 28 of any
+    abbrev pub rowTests : ℕ → List Test
+    rowTests groups = anyBelow (blankIn requirement levels s t needed) groups gives 27 ∷ anyBelow lackingIn groups gives 28 ∷ []
+
+    -- what is found over all groups; nobody reads the row of a start that is refused
+    pub record RowDone (groups number : ℕ) (row′ : List ℕ) : Type 0 where
+      pub answers : number ≡ first (rowTests groups)
+      pub chooses : number ≡ 0 → row′ ≡ rowIn groups
 
 -- each group of the set is there, and its level is unset or a level
 abbrev pub Reached : List ℕ → List ℕ → ℕ → ℕ → ℕ → Type 0
@@ -169,10 +159,10 @@ wishKnown requirement levels s t g = levelKnown levels s t (getD requirement g 0
 -- start: the number, and what the running tasks and the choices then are
 module _ (sets group level lattice requirement rights may levels running chosen : List ℕ) (skids tasks groups tanks s t : ℕ) where
   abbrev pub startRow : List ℕ
-  startRow = rowIn (groupChoice sets group level lattice requirement tanks) requirement rights levels s t groups
+  startRow = rowIn (groupChoice sets group level lattice requirement tanks) requirement levels s t (needsIn rights t) groups
 
   abbrev pub startNumber : ℕ
-  startNumber = first (earlyTests may running skids tasks s t ++ rowTests (groupChoice sets group level lattice requirement tanks) requirement rights levels s t groups)
+  startNumber = first (earlyTests may running skids tasks s t ++ rowTests (groupChoice sets group level lattice requirement tanks) requirement levels s t (needsIn rights t) groups)
 
   pub record Started (number : ℕ) (running′ chosen′ : List ℕ) : Type 0 where
     pub answers : number ≡ startNumber

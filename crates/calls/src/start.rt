@@ -4,48 +4,17 @@ ghost use mathlib.Core.Bool.{true};
 ghost use Prim.Native.Nat.{_<_, _≤_};
 ghost use lib.ListN.{getD, replicate};
 ghost use Rattle.base.specs.Below.{allBelow};
+ghost use Rattle.base.specs.Bits.{bit};
 ghost use Rattle.base.specs.Chain.{first};
 ghost use Rattle.plant.specs.Checks.{entryBelow};
-ghost use Rattle.choice.specs.Table.{linkIn, ChoicesIn};
-ghost use Rattle.calls.specs.Work.{levelKnown, earlyTests, wishKnown, madeAt, NeedIn, Needed, Reached, GroupDone, SetDone, Started, Tabled, Remembered, Granted};
+ghost use Rattle.choice.specs.Table.{linkIn};
+ghost use Rattle.calls.specs.Work.{levelKnown, earlyTests, wishKnown, madeAt, NeedIn, Needed, Reached, GroupDone, RowDone, Started, Remembered, Granted};
 use crate::grant_row;
 use crate::put_row;
 use crate::wide;
 use choice::make_choices;
 use lattice::with_one;
 use lattice::without_one;
-
-// Makes the table of choices where it is not made yet, at the first start of a list that passes 26: entry 0 is 254 until then, which no choice is.
-fn make_once<'a>(
-    sets: &'a [u16; 128],
-    group: &'a [u8; 64],
-    level: &'a [u8; 64],
-    lattice: &'a [u8; 8],
-    requirement: &'a [u8; 8],
-    made: &mut [u8; 128],
-    groups: u8,
-    tanks: u8,
-)
-    requires { ⌜ (groups ≤ 8) × (tanks ≤ 64) ⌝ }
-    requires { ⌜ allBelow (linkIn (now lattice) (now requirement)) groups ≡ true ⌝ }
-    requires { ⌜ (allBelow (entryBelow (now group) groups) tanks ≡ true) × (allBelow (entryBelow (now level) 16) tanks ≡ true) ⌝ }
-    requires { ⌜ Tabled (now sets) (now group) (now level) (now lattice) (now requirement) groups tanks (now made) ⌝ }
-    ensures { λ r. ⌜ ChoicesIn (now (sets .entry)) (now (group .entry)) (now (level .entry)) (now (lattice .entry)) (now (requirement .entry)) groups tanks (now (made .exit)) ⌝ }
-{
-    if made[0] != 254 {
-        return;
-    }
-    make_choices(
-        sets,
-        group,
-        level,
-        lattice,
-        requirement,
-        made,
-        groups,
-        tanks,
-    );
-}
 
 // The groups on which task t names a right, as a set.
 fn need_of(rights: &[u8; 128], t: usize, groups: u8) -> u16
@@ -118,7 +87,7 @@ fn choose_row<'a>(
 ) -> u8
     requires { ⌜ (s < 8) × (t < 16) ⌝ }
     requires { ⌜ Reached (now requirement) (now levels) s t need × (now row ≡ replicate 8 255) ⌝ }
-    ensures { λ r. ⌜ SetDone (madeAt (now (made .entry))) (now (requirement .entry)) (now (levels .entry)) s t need r (now (row .exit)) ⌝ }
+    ensures { λ r. ⌜ RowDone (madeAt (now (made .entry))) (now (requirement .entry)) (now (levels .entry)) s t (bit need) 8 r (now (row .exit)) ⌝ }
 {
     let mut number: u8 = 0;
     let mut rest = need;
@@ -190,7 +159,7 @@ pub fn start_at<'a>(
     if early != 0 {
         return early;
     }
-    make_once(
+    make_choices(
         sets,
         group,
         level,

@@ -26,8 +26,8 @@ returns c =
     let p = c .before .before .before .pre .1 .1 .1 in
     (started-early _ _ _ _ _ _ _ _ _ _ _ _ _ _ _ _ (c .before .start-early .ensures) (c .if1 .taken), (p .0, p .1 .0))
 
-make-once-requires : tie.Need-make-once-requires
-make-once-requires c κs =
+make-choices-requires : tie.Need-make-choices-requires
+make-choices-requires c κs =
     let s = c .before .before .before .before in
     (s .pre .0 .1 .1, (s .pre .1 .0, (s .pre .1 .1 .0, s .pre .1 .1 .1 .0 .table)))
 
@@ -54,8 +54,8 @@ returns-2 c =
     let s = i .before .before .before in
     let a = s .args in
     let k = there i in
-    let w = by-choice (a .sets .now) (a .group .now) (a .level .now) (a .lattice .now) (a .requirement .now) (a .rights .now) (a .levels .now) (a .groups) (a .tanks) (a .s) (a .t) (n .need-once .result) (s .pre .0 .1 .1 .0) (m .make-once .ensures) (s .pre .1 .1 .1 .1 .1 (k .0) (k .1)) (n .need-once .ensures .0) (c .before .choose-row .ensures) in
-    (started-refused _ _ _ _ _ _ _ _ _ _ _ _ _ _ _ _ (i .before .start-early .ensures) (i .if1 .left) w (c .if2 .taken), (remembered (m .make-once .ensures) (n .need-once .ensures .1), s .pre .1 .1 .1 .1 .0))
+    let w = by-choice (a .sets .now) (a .group .now) (a .level .now) (a .lattice .now) (a .requirement .now) (a .rights .now) (a .levels .now) (a .groups) (a .tanks) (a .s) (a .t) (n .need-once .result) (s .pre .0 .1 .1 .0) (m .make-choices .ensures) (s .pre .1 .1 .1 .1 .1 (k .0) (k .1)) (n .need-once .ensures .0) (c .before .choose-row .ensures) in
+    (started-refused _ _ _ _ _ _ _ _ _ _ _ _ _ _ _ _ (i .before .start-early .ensures) (i .if1 .left) w (c .if2 .taken), (remembered (m .make-choices .ensures) (n .need-once .ensures .1), s .pre .1 .1 .1 .1 .0))
 
 element-write-running : tie.Need-element-write-running
 element-write-running c = skid-fits (c .before .before .before .before .before .before .before .before)
@@ -75,12 +75,12 @@ returns-3 c =
     let s = i .before .before .before in
     let a = s .args in
     let k = there i in
-    let w = by-choice (a .sets .now) (a .group .now) (a .level .now) (a .lattice .now) (a .requirement .now) (a .rights .now) (a .levels .now) (a .groups) (a .tanks) (a .s) (a .t) (n .need-once .result) (s .pre .0 .1 .1 .0) (m .make-once .ensures) (s .pre .1 .1 .1 .1 .1 (k .0) (k .1)) (n .need-once .ensures .0) (j .before .choose-row .ensures) in (
+    let w = by-choice (a .sets .now) (a .group .now) (a .level .now) (a .lattice .now) (a .requirement .now) (a .rights .now) (a .levels .now) (a .groups) (a .tanks) (a .s) (a .t) (n .need-once .result) (s .pre .0 .1 .1 .0) (m .make-choices .ensures) (s .pre .1 .1 .1 .1 .1 (k .0) (k .1)) (n .need-once .ensures .0) (j .before .choose-row .ensures) in (
       started-0 _ _ _ _ _ _ _ _ _ _ _ _ _ _ _ _ (i .before .start-early .ensures) (i .if1 .left) w (j .if2 .left) refl (c .before .before .put-row .ensures),
-      (remembered (m .make-once .ensures) (n .need-once .ensures .1), rw (c .grant-row .ensures) (task-put (a .rights .now) (a .running .now) (a .s) (skid-fits i) (s .pre .1 .1 .1 .1 .0) (a .t) (task-fits i))),
+      (remembered (m .make-choices .ensures) (n .need-once .ensures .1), rw (c .grant-row .ensures) (task-put (a .rights .now) (a .running .now) (a .s) (skid-fits i) (s .pre .1 .1 .1 .1 .0) (a .t) (task-fits i))),
     )
 
 pub start-at-spec : {M : Type 1} → statement M
 start-at-spec =
     tie.close
-    (tie.spec (λ c κs. search needs) returns make-once-requires need-once-requires choose-row-requires returns-2 element-write-running put-row-requires grant-row-requires returns-3)
+    (tie.spec (λ c κs. search needs) returns make-choices-requires need-once-requires choose-row-requires returns-2 element-write-running put-row-requires grant-row-requires returns-3)
