@@ -11,15 +11,15 @@ use Rattle.choice.specs.Choice.{unset}
 use Rattle.rules.specs.Rules.{View}
 
 module _ (P : Plant) where
-  -- a level is unset or one of its lattice
+  -- A level is unset or one of its lattice: any other compares with no tank, or with whatever bits lie behind the lattice's own.
   unfoldable pub levelOk : View → ℕ → ℕ → Bool
   levelOk w t d = eqb (w .level t d) unset || ltb (w .level t d) (levelsOf P d)
 
-  -- a running task is none or one that the skid may run
+  -- A running task is none or one that the skid may run: no start can have begun another, and its rights would be nobody's decision.
   unfoldable pub taskOk : ℕ → View → Bool
   taskOk s w = eqb (w .running) unset || (ltb (w .running) (P .tasks) && mayRun P s (w .running))
 
-  -- where the running task has a right, the chosen tank is one of that group
+  -- Where the running task has a right, the chosen tank is one of that group: a gate would else open on another component.
   unfoldable pub tankOk : View → ℕ → Bool
   tankOk w g = eqb (w .running) unset || (not (needs P (w .running) g) || (ltb (w .chosen g) (P .tanks) && eqb (groupOf P (w .chosen g)) g))
 

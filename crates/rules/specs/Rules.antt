@@ -55,7 +55,7 @@ module _ (P : Plant) where
   holds w o r = not (eqb (w .running) unset) && (namesRight P (w .running) r (groupOf P o) && eqb (w .chosen (groupOf P o)) o)
 
   -- A call's conditions in the paper's order: the first that holds refuses the call. Each is asked of all groups before the next. The
-  -- article's transition function is total, yet gives a failed precondition no outcome.
+  -- article's transition function is total, yet gives a failed precondition no outcome. specs/Words has each as a rule, with its reason.
   unfoldable pub conditions : (ℕ → View) → Call → List Test
   conditions vs (set s t d v) = leb (P .skids) s gives 21 ∷ leb (P .tasks) t gives 22 ∷ leb (P .requirements) d gives 23 ∷ leb (levelsOf P d) v gives 24 ∷ []
   conditions vs (start s t) =
@@ -90,7 +90,8 @@ module _ (P : Plant) where
   pickFor t wish g = cond (ltb g (P .groups) && needs P t g) (choice P g wish) unset
 
   -- What an accepted call makes of the view of the skid that it names. A level set during a task leaves the chosen tanks: accesses are
-  -- judged by the levels at the start, where the article says so and then judges them by the new level.
+  -- judged by the levels at the start, where the article says so and then judges them by the new level. A blend under way must not change
+  -- its tank.
   unfoldable pub effect : View → Call → View
   effect w (set s t d v) = record { level = λ t′ d′. cond (eqb t′ t && eqb d′ d) v (w .level t′ d′); running = w .running; chosen = w .chosen }
   effect w (start s t) = record { level = w .level; running = t; chosen = pickFor t (w .level t) }
