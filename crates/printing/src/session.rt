@@ -41,7 +41,7 @@ fn print_batch(plant: &[u8], requests: &[u8], text: &mut [u8]) -> usize
 }
 
 // Over 65,536 bytes are too long. A plant that is not all there is refused with 1, as a file of another length than it says.
-pub fn print_session(input: &[u8], text: &mut [u8; TEXT]) -> usize
+fn print_session(input: &[u8], text: &mut [u8; TEXT]) -> usize
     ensures { λ r. ⌜ Wrote (printed (now (input .entry))) (now (text .entry)) 0 (now (text .exit)) r ⌝ }
 {
     if input.len() > 65536 {
@@ -61,6 +61,7 @@ pub fn print_session(input: &[u8], text: &mut [u8; TEXT]) -> usize
 pub fn print_read(input: &[u8; INPUT], n: usize, text: &mut [u8; TEXT]) -> usize
     ensures { λ r. ⌜ PrintsRead (now (input .entry)) n (now (text .entry)) (now (text .exit)) r ⌝ }
 {
+    // as a slice, since the check does not cover a part of an array that is lent
     let bytes: &[u8] = input;
     if n > bytes.len() {
         return print_session(bytes, text);
