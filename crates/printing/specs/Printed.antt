@@ -1,9 +1,10 @@
 -- What the program prints for its input: a plant file, then request bytes.
-use Prim.Native.Nat.{ℕ, _+_}
+use Prim.Native.Nat.{ℕ, _+_, _<_}
 use mathlib.Core.Bool.{cond, _||_}
 use mathlib.Core.List.{List, [], _∷_}
 use lib.Dec.{ltb}
 use lib.ListN.{length, take, drop}
+use Rattle.base.specs.Overlay.{Wrote}
 use Rattle.layout.specs.Layout.{wordAt, headerBytes}
 use Rattle.reader.specs.Reading.{readingOf}
 use Rattle.panel.specs.Batch.{requestCount, batchRefusal, batchCalls, outcome}
@@ -28,3 +29,9 @@ printed input =
     cond (ltb inputLimit (length input)) (line (codes "long" ∷ []))
     (cond (ltb (length input) headerBytes || ltb (length input) (plantLength input)) (refusalLine 1)
     (batchLines (take (plantLength input) input) (drop (plantLength input) input)))
+
+-- The program read n bytes into an array, and k bytes of `out` are what it prints of them. The array has room for a byte more than is taken: input
+-- that is too long shows by that byte.
+pub record PrintsRead (array : List ℕ) (n : ℕ) (out out′ : List ℕ) (k : ℕ) : Type 0 where
+  pub text : Wrote (printed (take n array)) out 0 out′ k
+  pub room : 65536 < length array

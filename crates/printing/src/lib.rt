@@ -1,7 +1,9 @@
 // Text written into a lent buffer: each function puts its text at a place and returns the place behind it.
 mod session;
 
-pub use session::print_session;
+pub use session::INPUT;
+pub use session::TEXT;
+pub use session::print_read;
 ghost use mathlib.Core.List.{[], _∷_, _++_};
 ghost use Prim.Native.Nat.{_+_, _*_, _<_, _≤_};
 ghost use lib.ListN.{length};

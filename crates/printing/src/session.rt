@@ -3,17 +3,20 @@ ghost use mathlib.Core.Path.{_≡_};
 ghost use Prim.Native.Nat.{_<_, _≤_};
 ghost use lib.ListN.{length};
 ghost use Rattle.base.specs.Overlay.{Wrote};
-ghost use Rattle.printing.specs.Printed.{batchLines, plantLength, printed};
+ghost use Rattle.printing.specs.Printed.{batchLines, plantLength, printed, PrintsRead};
 use crate::print_outcome;
 use crate::put_refusal;
 use crate::put_word;
 use panel::permits_batch;
 
+// What the program reads into: one byte more than is taken, so that longer input shows.
+pub const INPUT: usize = 65537;
+
 // 65,536 bytes have at most 13,107 requests, so this is room for the answers, a count, and 255 rights of three bytes.
 const RESULTS: usize = 13107 + 766;
 
 // Room for 13,107 lines of ten bytes, the held line, and 255 lines of twelve.
-const TEXT: usize = 131070 + 3069;
+pub const TEXT: usize = 131070 + 3069;
 
 fn wide(x: u8) -> usize
     ensures { λ r. ⌜ (r ≡ x) × (r < 256) ⌝ }
@@ -38,7 +41,7 @@ fn print_batch(plant: &[u8], requests: &[u8], text: &mut [u8]) -> usize
 }
 
 // Over 65,536 bytes are too long. A plant that is not all there is refused with 1, as a file of another length than it says.
-pub fn print_session(input: &[u8], text: &mut [u8; TEXT]) -> usize
+fn print_session(input: &[u8], text: &mut [u8; TEXT]) -> usize
     ensures { λ r. ⌜ Wrote (printed (now (input .entry))) (now (text .entry)) 0 (now (text .exit)) r ⌝ }
 {
     if input.len() > 65536 {
@@ -52,4 +55,16 @@ pub fn print_session(input: &[u8], text: &mut [u8; TEXT]) -> usize
         return put_refusal(text, 0, 1);
     }
     print_batch(&input[..k], &input[k..], text)
+}
+
+// Of what the program read: the first n bytes of the array, or all of it where n is more.
+pub fn print_read(input: &[u8; INPUT], n: usize, text: &mut [u8; TEXT]) -> usize
+    ensures { λ r. ⌜ PrintsRead (now (input .entry)) n (now (text .entry)) (now (text .exit)) r ⌝ }
+{
+    // as a slice, since the check does not cover a part of an array that is lent
+    let bytes: &[u8] = input;
+    if n > bytes.len() {
+        return print_session(bytes, text);
+    }
+    print_session(&bytes[..n], text)
 }

@@ -8,7 +8,7 @@ use Rattle.permits.proofs.main.Statement.{statement}
 use Rattle.permits.proofs.main.Tie as tie
 
 array-share-prefix-text : tie.Need-array-share-prefix-text
-array-share-prefix-text c = wrote-within _ _ 0 zero-le (c .print-session .ensures)
+array-share-prefix-text c = wrote-within _ _ 0 zero-le (c .print-read .ensures .text)
 
 slice-aggregate-write-all : tie.Need-slice-aggregate-write-all
 slice-aggregate-write-all c = sym (length-take-le _ _ (array-share-prefix-text (c .before)))
@@ -19,8 +19,6 @@ main-spec =
     (tie.spec
     (λ c. search needs)
     (λ c κs. search needs)
-    (λ c. search needs)
-    (λ c. search needs)
     (λ c κs. search needs)
     array-share-prefix-text
     slice-aggregate-write-all
