@@ -21,38 +21,41 @@ pub record Cell : Type 0 where
 abbrev pub oneCell : ℕ → ℕ → Cell
 oneCell section from = record { section = section; from = from; run = 1 }
 
+abbrev pub firstCell : ℕ → Cell
+firstCell section = oneCell section 0
+
 -- Lattice: byte 0 is the number of levels; byte 1 is zero; then sixteen two-byte sets.
 abbrev pub latticeSize : Cell
-latticeSize = oneCell lattices 0
+latticeSize = firstCell lattices
 
 abbrev pub latticeSets : Cell
 latticeSets = record { section = lattices; from = 2; run = 16 }
 
 -- Requirement: its lattice, then zero.
 abbrev pub requirementLattice : Cell
-requirementLattice = oneCell requirements 0
+requirementLattice = firstCell requirements
 
 -- Group: its requirement, then zero.
 abbrev pub groupRequirement : Cell
-groupRequirement = oneCell groups 0
+groupRequirement = firstCell groups
 
 -- Tank: its group, then its level.
 abbrev pub tankGroup : Cell
-tankGroup = oneCell tanks 0
+tankGroup = firstCell tanks
 
 abbrev pub tankLevel : Cell
 tankLevel = oneCell tanks 1
 
 -- Task: a byte that names requirements; a zero byte; eight bytes, one for the rights on each group.
 abbrev pub taskNames : Cell
-taskNames = oneCell tasks 0
+taskNames = firstCell tasks
 
 abbrev pub taskRights : Cell
 taskRights = record { section = tasks; from = 2; run = 8 }
 
 -- Skid: the tasks that it may run, a two-byte set.
 abbrev pub skidTasks : Cell
-skidTasks = oneCell skids 0
+skidTasks = firstCell skids
 
 -- the byte of a lattice, a requirement, a group or a task that is always zero
 abbrev pub zeroByte : ℕ

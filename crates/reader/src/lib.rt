@@ -4,7 +4,7 @@ ghost use Prim.Native.Nat.{_<_};
 ghost use Rattle.layout.specs.Layout.{lattices, tanks, tasks, skids, sections, width, limit, Records};
 ghost use Rattle.layout.specs.Header.{placingRefusal};
 ghost use Rattle.plant.specs.Plant.{noPlant};
-ghost use Rattle.reader.specs.Reading.{oneCell, latticeSets, taskNames, taskRights, skidTasks, zeroByte, bytesIn, wordsIn, plantOf, zeros, otherZeros, refusedWith, readingOf};
+ghost use Rattle.reader.specs.Reading.{oneCell, firstCell, latticeSets, taskNames, taskRights, skidTasks, zeroByte, bytesIn, wordsIn, plantOf, zeros, otherZeros, refusedWith, readingOf};
 use layout::GROUPS;
 use layout::LATTICES;
 use layout::REQUIREMENTS;
@@ -21,7 +21,9 @@ use layout::words_into;
 use layout::zeros_at;
 use plant::Plant;
 
-// Where a record's cells begin, and how many there are where it has several.
+// Where a record's cells begin, and how many there are where it has several. FIRST is a lattice's size, a requirement's lattice, a group's requirement.
+const FIRST: usize = 0;
+
 const LATTICE_SETS: usize = 2;
 
 const SETS: usize = 16;
@@ -74,10 +76,10 @@ fn no_plant() -> Plant
 fn read_eight(s: &[u8], kind: usize, n: usize) -> [u8; 8]
     requires { ⌜ Records (now s) kind n ⌝ }
     requires { ⌜ (kind < sections) × (limit kind ≡ 8) ⌝ }
-    ensures { λ r. ⌜ r ≡ bytesIn (oneCell kind 0) (now (s .entry)) n ⌝ }
+    ensures { λ r. ⌜ r ≡ bytesIn (firstCell kind) (now (s .entry)) n ⌝ }
 {
     let mut out = [0u8; 8];
-    bytes_into(s, width_of(kind), 0, 1, n, &mut out);
+    bytes_into(s, width_of(kind), FIRST, 1, n, &mut out);
     out
 }
 

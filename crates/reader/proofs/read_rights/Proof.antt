@@ -2,6 +2,7 @@
 use mathlib.Core.Path.{_∙_}
 use native.Mathlib.Omega.{arith}
 use Rattle.layout.proofs.Parts.{records-cells}
+use Rattle.reader.specs.Reading.{taskRights}
 use borrow.Author.Needs.{needs}
 use Rattle.reader.proofs.read_rights.Statement.{statement}
 use Rattle.reader.proofs.read_rights.Tie as tie
@@ -9,7 +10,7 @@ use Rattle.reader.proofs.read_rights.Tie as tie
 bytes-into-requires : tie.Need-bytes-into-requires
 bytes-into-requires c κs =
     let h = c .before .before .before .pre in
-    rw (c .before .width-of .ensures .0) (records-cells h (omega arith) 2 8 1 (omega arith) (omega arith), (h .there, omega arith))
+    rw (c .before .width-of .ensures .0) (records-cells h (omega arith) (taskRights .from) (taskRights .run) 1 (omega arith) (omega arith), (h .there, omega arith))
 
 returns : tie.Need-returns
 returns c = c .before .bytes-into .ensures ∙ rw (c .before .before .before .width-of .ensures .0)

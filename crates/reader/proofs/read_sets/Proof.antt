@@ -2,6 +2,7 @@
 use mathlib.Core.Path.{_∙_}
 use native.Mathlib.Omega.{arith}
 use Rattle.layout.proofs.Parts.{records-cells}
+use Rattle.reader.specs.Reading.{latticeSets}
 use borrow.Author.Needs.{needs}
 use Rattle.reader.proofs.read_sets.Statement.{statement}
 use Rattle.reader.proofs.read_sets.Tie as tie
@@ -9,7 +10,7 @@ use Rattle.reader.proofs.read_sets.Tie as tie
 words-into-requires : tie.Need-words-into-requires
 words-into-requires c κs =
     let h = c .before .before .before .pre in
-    rw (c .before .width-of .ensures .0) (records-cells h (omega arith) 2 16 2 (omega arith) (omega arith), (h .there, omega arith))
+    rw (c .before .width-of .ensures .0) (records-cells h (omega arith) (latticeSets .from) (latticeSets .run) 2 (omega arith) (omega arith), (h .there, omega arith))
 
 returns : tie.Need-returns
 returns c = c .before .words-into .ensures ∙ rw (c .before .before .before .width-of .ensures .0)

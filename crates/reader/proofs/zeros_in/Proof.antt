@@ -2,6 +2,7 @@
 use mathlib.Core.Path.{_∙_}
 use native.Mathlib.Omega.{arith}
 use Rattle.layout.proofs.Parts.{header-there, part-records, records-cells}
+use Rattle.reader.specs.Reading.{zeroByte}
 use borrow.Author.Needs.{needs}
 use Rattle.reader.proofs.zeros_in.Statement.{statement}
 use Rattle.reader.proofs.zeros_in.Tie as tie
@@ -14,7 +15,7 @@ zeros-at-requires c κs =
     let s = c .before .before .before .before in
     let l = s .pre .0 .1 in
     let h = part-records _ (s .pre .0 .0) _ l (c .before .part-of .ensures) (c .before .before .count-of .ensures .0) in
-    rw (c .width-of .ensures .0) (records-cells h l 1 1 1 (omega arith) (s .pre .1), h .there)
+    rw (c .width-of .ensures .0) (records-cells h l zeroByte 1 1 (omega arith) (s .pre .1), h .there)
 
 returns : tie.Need-returns
 returns c = c .zeros-at .ensures ∙ rw (c .before .width-of .ensures .0, c .before .before .part-of .ensures, c .before .before .before .count-of .ensures .0)
