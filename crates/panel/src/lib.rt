@@ -4,15 +4,14 @@ ghost use mathlib.Core.Bool.{true};
 ghost use Prim.Native.Nat.{_+_, _*_, _≤_};
 ghost use lib.ListN.{length};
 ghost use Rattle.base.specs.Overlay.{overlay};
+ghost use Rattle.layout.specs.Header.{sectionPlace};
 ghost use Rattle.plant.specs.Checks.{plantRefusal};
 ghost use Rattle.batch.specs.Requests.{callsOf};
 ghost use Rattle.panel.specs.Batch.{refusalBy, outcome, batchRefusal, batchOut};
-ghost use Rattle.panel.specs.Section.{sectionPlace};
 use batch::serve;
 use held::write_held;
-use layout::offset_of;
-use layout::part_of;
-use layout::placing_refusal;
+use layout::Place;
+use layout::section_place;
 use plant::Plant;
 use reader::read;
 
@@ -67,35 +66,10 @@ pub extern "C" fn permits_batch(plant: &[u8], requests: &[u8], out: &mut [u8]) -
     0
 }
 
-// Where a part of the caller's bytes stands in them.
-#[repr(C)]
-pub struct Place {
-    pub begin: usize,
-    pub length: usize,
-}
-
-// Where 01's section stands in the caller's bytes, or an empty part at their start. A function that C calls cannot hand back a part of them, as
-// layout's `section` does.
+// Where 01's section stands in the caller's bytes. A function that C calls cannot hand back a part of them, as layout's `section` does.
 #[no_mangle]
 pub extern "C" fn permits_section(file: &[u8], kind: usize) -> Place
     ensures { λ r. ⌜ r ≡ sectionPlace (now (file .entry)) kind ⌝ }
 {
-    if placing_refusal(file) != 0 {
-        return Place {
-            begin: 0,
-            length: 0,
-        };
-    }
-    if 6 <= kind {
-        return Place {
-            begin: 0,
-            length: 0,
-        };
-    }
-    let begin = offset_of(file, kind);
-    let length = part_of(file, kind).len();
-    Place {
-        begin: begin,
-        length: length,
-    }
+    section_place(file, kind)
 }

@@ -1,12 +1,18 @@
 // The reader of plant files: any bytes give opening's number, and the plant where it is 0.
 ghost use mathlib.Core.Path.{_≡_};
-ghost use Prim.Native.Nat.{_+_, _*_, _<_, _≤_};
-ghost use lib.ListN.{length};
-ghost use Rattle.layout.specs.Layout.{width, limit, count, part, bytesOf, wordsOf};
+ghost use Prim.Native.Nat.{_<_};
+ghost use Rattle.layout.specs.Layout.{lattices, tanks, tasks, skids, sections, width, limit, Records};
 ghost use Rattle.layout.specs.Header.{placingRefusal};
 ghost use Rattle.plant.specs.Plant.{noPlant};
-ghost use Rattle.reader.specs.Reading.{bytes, words, plantOf, zeros, otherZeros, refusedWith, readingOf};
+ghost use Rattle.reader.specs.Reading.{oneCell, firstCell, latticeSets, taskNames, taskRights, skidTasks, zeroByte, bytesIn, wordsIn, plantOf, zeros, otherZeros, refusedWith, readingOf};
+use layout::GROUPS;
+use layout::LATTICES;
+use layout::REQUIREMENTS;
+use layout::SKIDS;
+use layout::TANKS;
+use layout::TASKS;
 use layout::bytes_into;
+use layout::count_byte;
 use layout::count_of;
 use layout::part_of;
 use layout::placing_refusal;
@@ -14,6 +20,28 @@ use layout::width_of;
 use layout::words_into;
 use layout::zeros_at;
 use plant::Plant;
+
+// Where a record's cells begin, and how many there are where it has several. FIRST is a lattice's size, a requirement's lattice, a group's requirement.
+const FIRST: usize = 0;
+
+const LATTICE_SETS: usize = 2;
+
+const SETS: usize = 16;
+
+const TANK_GROUP: usize = 0;
+
+const TANK_LEVEL: usize = 1;
+
+const TASK_NAMES: usize = 0;
+
+const TASK_RIGHTS: usize = 2;
+
+const GROUP_BYTES: usize = 8;
+
+const SKID_TASKS: usize = 0;
+
+// The byte of a lattice, a requirement, a group or a task that is always zero.
+const ZERO_BYTE: usize = 1;
 
 // Opening's number, and the plant where it is 0. A refusal has a plant of zeros.
 pub struct Reading {
@@ -43,95 +71,66 @@ fn no_plant() -> Plant
     }
 }
 
-// The cells of a section, into an array that holds zeros past the counts.
-fn read_bytes(file: &[u8], kind: usize, from: usize, run: usize, out: &mut [u8])
-    requires { ⌜ (placingRefusal (now file) ≡ 0) × (kind < 6) ⌝ }
-    requires { ⌜ (0 < run) × (from + run ≤ width kind) ⌝ }
-    requires { ⌜ count (now file) kind * run ≤ length (now out) ⌝ }
-    ensures { λ r. ⌜ now (out .exit) ≡ bytesOf (part (now (file .entry)) kind) (width kind) from run (count (now (file .entry)) kind) (now (out .entry)) ⌝ }
-{
-    let w = width_of(kind);
-    let n = count_of(file, kind);
-    bytes_into(part_of(file, kind), w, from, run, n, out);
-}
-
-fn read_words(file: &[u8], kind: usize, from: usize, run: usize, out: &mut [u16])
-    requires { ⌜ (placingRefusal (now file) ≡ 0) × (kind < 6) ⌝ }
-    requires { ⌜ (0 < run) × (from + run * 2 ≤ width kind) ⌝ }
-    requires { ⌜ count (now file) kind * run ≤ length (now out) ⌝ }
-    ensures { λ r. ⌜ now (out .exit) ≡ wordsOf (part (now (file .entry)) kind) (width kind) from run (count (now (file .entry)) kind) (now (out .entry)) ⌝ }
-{
-    let w = width_of(kind);
-    let n = count_of(file, kind);
-    words_into(part_of(file, kind), w, from, run, n, out);
-}
-
-// Whether byte `from` of each record of a section is zero.
-fn read_zeros(file: &[u8], kind: usize, from: usize) -> bool
-    requires { ⌜ (placingRefusal (now file) ≡ 0) × (kind < 6) ⌝ }
-    requires { ⌜ from + 1 ≤ width kind ⌝ }
-    ensures { λ r. ⌜ r ≡ zeros (now (file .entry)) kind from ⌝ }
-{
-    let w = width_of(kind);
-    let n = count_of(file, kind);
-    zeros_at(part_of(file, kind), w, from, n)
-}
-
-// Byte 0 of each lattice, requirement or group.
-fn read_eight(file: &[u8], kind: usize) -> [u8; 8]
-    requires { ⌜ placingRefusal (now file) ≡ 0 ⌝ }
-    requires { ⌜ (kind < 6) × (limit kind ≤ 8) ⌝ }
-    ensures { λ r. ⌜ r ≡ bytes (now (file .entry)) kind 0 1 8 ⌝ }
+// Byte 0 of each lattice, requirement or group. This reader and those below have the part of the file that holds n records, and count from its
+// own zero.
+fn read_eight(s: &[u8], kind: usize, n: usize) -> [u8; 8]
+    requires { ⌜ Records (now s) kind n ⌝ }
+    requires { ⌜ (kind < sections) × (limit kind ≡ 8) ⌝ }
+    ensures { λ r. ⌜ r ≡ bytesIn (firstCell kind) (now (s .entry)) n ⌝ }
 {
     let mut out = [0u8; 8];
-    read_bytes(file, kind, 0, 1, &mut out);
+    bytes_into(s, width_of(kind), FIRST, 1, n, &mut out);
+    out
+}
+
+// Each lattice's sets.
+fn read_sets(s: &[u8], n: usize) -> [u16; 128]
+    requires { ⌜ Records (now s) lattices n ⌝ }
+    ensures { λ r. ⌜ r ≡ wordsIn latticeSets (now (s .entry)) n ⌝ }
+{
+    let mut out = [0u16; 128];
+    words_into(s, width_of(LATTICES), LATTICE_SETS, SETS, n, &mut out);
     out
 }
 
 // Each tank's group, or its level.
-fn read_tanks(file: &[u8], from: usize) -> [u8; 64]
-    requires { ⌜ placingRefusal (now file) ≡ 0 ⌝ }
-    requires { ⌜ from < 2 ⌝ }
-    ensures { λ r. ⌜ r ≡ bytes (now (file .entry)) 3 from 1 64 ⌝ }
+fn read_tanks(s: &[u8], n: usize, from: usize) -> [u8; 64]
+    requires { ⌜ Records (now s) tanks n ⌝ }
+    requires { ⌜ from < width tanks ⌝ }
+    ensures { λ r. ⌜ r ≡ bytesIn (oneCell tanks from) (now (s .entry)) n ⌝ }
 {
     let mut out = [0u8; 64];
-    read_bytes(file, 3, from, 1, &mut out);
+    bytes_into(s, width_of(TANKS), from, 1, n, &mut out);
     out
 }
 
-fn read_names(file: &[u8]) -> [u8; 16]
-    requires { ⌜ placingRefusal (now file) ≡ 0 ⌝ }
-    ensures { λ r. ⌜ r ≡ bytes (now (file .entry)) 4 0 1 16 ⌝ }
+// The requirements that each task names.
+fn read_names(s: &[u8], n: usize) -> [u8; 16]
+    requires { ⌜ Records (now s) tasks n ⌝ }
+    ensures { λ r. ⌜ r ≡ bytesIn taskNames (now (s .entry)) n ⌝ }
 {
     let mut out = [0u8; 16];
-    read_bytes(file, 4, 0, 1, &mut out);
+    bytes_into(s, width_of(TASKS), TASK_NAMES, 1, n, &mut out);
     out
 }
 
-fn read_rights(file: &[u8]) -> [u8; 128]
-    requires { ⌜ placingRefusal (now file) ≡ 0 ⌝ }
-    ensures { λ r. ⌜ r ≡ bytes (now (file .entry)) 4 2 8 128 ⌝ }
+// Each task's rights, on eight groups.
+fn read_rights(s: &[u8], n: usize) -> [u8; 128]
+    requires { ⌜ Records (now s) tasks n ⌝ }
+    ensures { λ r. ⌜ r ≡ bytesIn taskRights (now (s .entry)) n ⌝ }
 {
     let mut out = [0u8; 128];
-    read_bytes(file, 4, 2, 8, &mut out);
+    bytes_into(s, width_of(TASKS), TASK_RIGHTS, GROUP_BYTES, n, &mut out);
     out
 }
 
-fn read_sets(file: &[u8]) -> [u16; 128]
-    requires { ⌜ placingRefusal (now file) ≡ 0 ⌝ }
-    ensures { λ r. ⌜ r ≡ words (now (file .entry)) 0 2 16 128 ⌝ }
-{
-    let mut out = [0u16; 128];
-    read_words(file, 0, 2, 16, &mut out);
-    out
-}
-
-fn read_skids(file: &[u8]) -> [u16; 8]
-    requires { ⌜ placingRefusal (now file) ≡ 0 ⌝ }
-    ensures { λ r. ⌜ r ≡ words (now (file .entry)) 5 0 1 8 ⌝ }
+// The tasks that each skid may run.
+fn read_skids(s: &[u8], n: usize) -> [u16; 8]
+    requires { ⌜ Records (now s) skids n ⌝ }
+    ensures { λ r. ⌜ r ≡ wordsIn skidTasks (now (s .entry)) n ⌝ }
 {
     let mut out = [0u16; 8];
-    read_words(file, 5, 0, 1, &mut out);
+    words_into(s, width_of(SKIDS), SKID_TASKS, 1, n, &mut out);
     out
 }
 
@@ -140,36 +139,59 @@ fn plant_from(file: &[u8]) -> Plant
     requires { ⌜ placingRefusal (now file) ≡ 0 ⌝ }
     ensures { λ r. ⌜ r ≡ plantOf (now (file .entry)) ⌝ }
 {
+    let lattices = count_byte(file, LATTICES);
+    let requirements = count_byte(file, REQUIREMENTS);
+    let groups = count_byte(file, GROUPS);
+    let tanks = count_byte(file, TANKS);
+    let tasks = count_byte(file, TASKS);
+    let skids = count_byte(file, SKIDS);
+    let of_lattices = part_of(file, LATTICES);
+    let of_tanks = part_of(file, TANKS);
+    let of_tasks = part_of(file, TASKS);
     Plant {
-        lattices: file[1],
-        requirements: file[2],
-        groups: file[3],
-        tanks: file[4],
-        tasks: file[5],
-        skids: file[6],
-        sizes: read_eight(file, 0),
-        sets: read_sets(file),
-        lattice: read_eight(file, 1),
-        requirement: read_eight(file, 2),
-        group: read_tanks(file, 0),
-        level: read_tanks(file, 1),
-        names: read_names(file),
-        rights: read_rights(file),
-        may: read_skids(file),
+        lattices: lattices,
+        requirements: requirements,
+        groups: groups,
+        tanks: tanks,
+        tasks: tasks,
+        skids: skids,
+        sizes: read_eight(of_lattices, LATTICES, lattices as usize),
+        sets: read_sets(of_lattices, lattices as usize),
+        lattice: read_eight(
+            part_of(file, REQUIREMENTS),
+            REQUIREMENTS,
+            requirements as usize,
+        ),
+        requirement: read_eight(part_of(file, GROUPS), GROUPS, groups as usize),
+        group: read_tanks(of_tanks, tanks as usize, TANK_GROUP),
+        level: read_tanks(of_tanks, tanks as usize, TANK_LEVEL),
+        names: read_names(of_tasks, tasks as usize),
+        rights: read_rights(of_tasks, tasks as usize),
+        may: read_skids(part_of(file, SKIDS), skids as usize),
     }
+}
+
+// Whether the zero byte of each record of a section is zero.
+fn zeros_in(file: &[u8], kind: usize) -> bool
+    requires { ⌜ (placingRefusal (now file) ≡ 0) × (kind < sections) ⌝ }
+    requires { ⌜ zeroByte < width kind ⌝ }
+    ensures { λ r. ⌜ r ≡ zeros (now (file .entry)) kind ⌝ }
+{
+    let n = count_of(file, kind);
+    zeros_at(part_of(file, kind), width_of(kind), ZERO_BYTE, n)
 }
 
 fn other_zeros(file: &[u8]) -> bool
     requires { ⌜ placingRefusal (now file) ≡ 0 ⌝ }
     ensures { λ r. ⌜ r ≡ otherZeros (now (file .entry)) ⌝ }
 {
-    if !read_zeros(file, 1, 1) {
+    if !zeros_in(file, REQUIREMENTS) {
         return false;
     }
-    if !read_zeros(file, 2, 1) {
+    if !zeros_in(file, GROUPS) {
         return false;
     }
-    read_zeros(file, 4, 1)
+    zeros_in(file, TASKS)
 }
 
 fn refused(number: u8) -> Reading
@@ -190,7 +212,7 @@ pub fn read(file: &[u8]) -> Reading
         return refused(number);
     }
     let p = plant_from(file);
-    let answer = plant::refusal(p, read_zeros(file, 0, 1), other_zeros(file));
+    let answer = plant::refusal(p, zeros_in(file, LATTICES), other_zeros(file));
     if answer != 0 {
         return refused(answer);
     }

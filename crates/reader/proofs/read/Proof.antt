@@ -16,7 +16,7 @@ returns-2 c =
     let n = c .before .before in
     let p = n .before .before .before in
     refused-late _ (p .before .before .placing-refusal .ensures) (p .before .if1 .left) (p .plant-from .ensures)
-    (n .before .before .read-zeros .ensures) (n .before .other-zeros .ensures) (n .refusal .ensures) (c .before .if2 .taken) (c .refused2 .ensures)
+    (n .before .before .zeros-in .ensures) (n .before .other-zeros .ensures) (n .refusal .ensures) (c .before .if2 .taken) (c .refused2 .ensures)
 
 returns-3 : tie.Need-returns-3
 unfolding latticeZeros
@@ -24,7 +24,7 @@ returns-3 c =
     let n = c .before in
     let p = n .before .before .before in
     accepted _ (p .before .before .placing-refusal .ensures) (p .before .if1 .left) (p .plant-from .ensures)
-    (n .before .before .read-zeros .ensures) (n .before .other-zeros .ensures) (n .refusal .ensures) (c .if2 .left) refl
+    (n .before .before .zeros-in .ensures) (n .before .other-zeros .ensures) (n .refusal .ensures) (c .if2 .left) refl
 
 pub read-spec : {M : Type 1} → statement M
 unfolding latticeZeros

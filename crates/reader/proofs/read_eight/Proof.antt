@@ -1,18 +1,23 @@
--- `reader::read_eight` meets its contract: the section has no more records than the array has room for. Assumes nothing.
+-- `reader::read_eight` meets its contract: the cells of records that are there lie within them. Assumes nothing.
+use mathlib.Core.Path.{_∙_}
 use native.Mathlib.Omega.{arith}
-use Rattle.layout.proofs.Parts.{count-fits}
+use Rattle.layout.proofs.Parts.{records-cells}
 use Rattle.layout.proofs.Sizes.{width-some}
 use borrow.Author.Needs.{needs}
 use Rattle.reader.proofs.read_eight.Statement.{statement}
 use Rattle.reader.proofs.read_eight.Tie as tie
 
-read-bytes-requires : tie.Need-read-bytes-requires
-read-bytes-requires c κs =
-    let s = c .before .before in
-    let k = s .args .kind in
-    ((s .pre .0, omega arith), ((omega arith, width-some k (omega arith)), omega (arith, count-fits _ (s .pre .0) k (omega arith))))
+bytes-into-requires : tie.Need-bytes-into-requires
+bytes-into-requires c κs =
+    let s = c .before .before .before in
+    let h = s .pre .0 in
+    let l = s .pre .1 .0 in
+    rw (c .before .width-of .ensures .0) (records-cells h l 0 1 1 (omega arith) (width-some _ l), (h .there, omega (arith, h .few)))
+
+returns : tie.Need-returns
+returns c = c .before .bytes-into .ensures ∙ rw (c .before .before .before .width-of .ensures .0, c .before .before .before .before .before .pre .1 .1)
 
 pub read-eight-spec : {M : Type 1} → statement M
 read-eight-spec =
     tie.close
-    (tie.spec (λ c. search needs) read-bytes-requires (λ c. search needs))
+    (tie.spec (λ c κs. search needs) (λ c. search needs) bytes-into-requires returns)
