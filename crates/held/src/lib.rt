@@ -45,6 +45,7 @@ fn write_right<'a, 'b>(
     at
 }
 
+// The rights on tank o in their order, so that the list rises.
 fn write_tank<'a, 'b>(
     group: &'a [u8; 64],
     rights: &'a [u8; 128],
