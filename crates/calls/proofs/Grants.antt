@@ -11,10 +11,9 @@ use lib.ListN.{getD, length, set, replicate, getD-replicate, length-replicate, l
 use lib.Seq.{getD-set-same, getD-set-other}
 use borrow.Author.Tests.{eq-eqb, ne-eqb, leb-false}
 use Rattle.base.specs.Below.{allBelow}
-use Rattle.base.specs.Bits.{bit}
-use Rattle.base.proofs.Bits.{zero-bit}
 use Rattle.base.proofs.Logic.{split}
 use Rattle.plant.specs.Checks.{entryBelow}
+use Rattle.plant.specs.Right.{hasRight}
 use Rattle.plant.proofs.Links.{entry-at}
 use Rattle.rules.specs.Record.{chosenAt, fillFrom}
 use Rattle.rules.proofs.Flat.{length-fillFrom, fillFrom-in, fillFrom-out}
@@ -108,7 +107,7 @@ and-swap false false = refl
 module _ (group rights running chosen : List ℕ) {skids : ℕ} {granted : List ℕ} (tanks : ℕ) (G : Granted rights running skids granted) (there : allBelow (entryBelow group 8) tanks ≡ true) where
   same-held : (s o r : ℕ) → s < skids → o < tanks → grantedIn group granted chosen s o r ≡ heldIn group rights running chosen s o r
   same-held s o r a b = rw (G .right s (getD group o 0) a (entry-at group 8 tanks o there b))
-      (split (eqb (getD running s 0) 255) (λ e. rw (e, zero-bit r) (and-false (eqb (getD chosen (chosenAt s (getD group o 0)) 0) o))) (λ e. rw e (and-swap (eqb (getD chosen (chosenAt s (getD group o 0)) 0) o) (bit (getD rights (getD running s 0 * 8 + getD group o 0) 0) r))))
+      (split (eqb (getD running s 0) 255) (λ e. rw e (and-false (eqb (getD chosen (chosenAt s (getD group o 0)) 0) o))) (λ e. rw e (and-swap (eqb (getD chosen (chosenAt s (getD group o 0)) 0) o) (hasRight (getD rights (getD running s 0 * 8 + getD group o 0) 0) r))))
 
   pub gate-by : (s o r : ℕ) → gateBy group granted chosen skids tanks s o r ≡ gateAnswer group rights running chosen skids tanks s o r
   gate-by s o r = split (leb skids s) (λ e. rw e)

@@ -8,7 +8,7 @@ use borrow.Author.Tests.{leb-true, leb-false, lt-leb, le-leb}
 use native.Mathlib.Omega.{arith}
 use Rattle.base.specs.Chain.{Test, _gives_, first}
 use Rattle.base.proofs.Logic.{split, true-false}
-use Rattle.plant.specs.Right.{validRight}
+use Rattle.plant.specs.Right.{rights, validRight}
 
 -- one of them is not there
 pub missing-number : (a b c : Bool) (x y : ℕ) (l : List Test) → (a || b) || c ≡ true → {n : ℕ} → n ≡ cond a 21 (cond b x y) → n ≡ first (a gives 21 ∷ b gives x ∷ c gives y ∷ l)
@@ -31,5 +31,5 @@ none-missing false false true e = absurd (true-false e)
 none-missing false false false e = (refl, (refl, refl))
 
 -- what is no right
-pub no-right : (r : ℕ) {x : Bool} → x ≡ validRight r → not x ≡ leb 3 r
+pub no-right : (r : ℕ) {x : Bool} → x ≡ validRight r → not x ≡ leb rights r
 no-right r e = ap not e ∙ split (leb r 2) (λ h. rw h (sym (lt-leb 3 r (omega (arith, leb-true r 2 h))))) (λ h. rw h (sym (le-leb 3 r (leb-false r 2 h))))

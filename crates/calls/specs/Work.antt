@@ -12,6 +12,7 @@ use Rattle.base.specs.Bits.{bit}
 use Rattle.base.specs.Chain.{Test, _gives_, first}
 use Rattle.base.specs.Fill.{fill}
 use Rattle.plant.specs.Checks.{entryBelow}
+use Rattle.plant.specs.Right.{rights, hasRight}
 use Rattle.choice.specs.Table.{linkIn, groupChoice, Tabled}
 use Rattle.rules.specs.Rules.{Call}
 use Rattle.rules.specs.Rules as call
@@ -36,11 +37,11 @@ setLevels number levels s t d v = cond (eqb number 0) (ListN.set levels (levelAt
 abbrev pub heldIn : List ℕ → List ℕ → List ℕ → List ℕ → ℕ → ℕ → ℕ → Bool
 heldIn group rights running chosen s o r =
     not (eqb (getD running s 0) 255)
-    && (bit (getD rights (getD running s 0 * 8 + getD group o 0) 0) r && eqb (getD chosen (chosenAt s (getD group o 0)) 0) o)
+    && (hasRight (getD rights (getD running s 0 * 8 + getD group o 0) 0) r && eqb (getD chosen (chosenAt s (getD group o 0)) 0) o)
 
 -- the answer, where it is known whether the skid holds the right
 abbrev pub gateNumber : ℕ → ℕ → ℕ → ℕ → ℕ → Bool → ℕ
-gateNumber skids tanks s o r held = first (leb skids s gives 21 ∷ leb tanks o gives 29 ∷ leb 3 r gives 30 ∷ not held gives 33 ∷ [])
+gateNumber skids tanks s o r held = first (leb skids s gives 21 ∷ leb tanks o gives 29 ∷ leb rights r gives 30 ∷ not held gives 33 ∷ [])
 
 abbrev pub gateAnswer : List ℕ → List ℕ → List ℕ → List ℕ → ℕ → ℕ → ℕ → ℕ → ℕ → ℕ
 gateAnswer group rights running chosen skids tanks s o r = gateNumber skids tanks s o r (heldIn group rights running chosen s o r)
@@ -64,7 +65,7 @@ pub record Granted (rights running : List ℕ) (skids : ℕ) (granted : List ℕ
 
 -- the gate by them; proofs/Grants has that it is the same
 abbrev pub grantedIn : List ℕ → List ℕ → List ℕ → ℕ → ℕ → ℕ → Bool
-grantedIn group granted chosen s o r = eqb (getD chosen (chosenAt s (getD group o 0)) 0) o && bit (getD granted (chosenAt s (getD group o 0)) 0) r
+grantedIn group granted chosen s o r = eqb (getD chosen (chosenAt s (getD group o 0)) 0) o && hasRight (getD granted (chosenAt s (getD group o 0)) 0) r
 
 abbrev pub gateBy : List ℕ → List ℕ → List ℕ → ℕ → ℕ → ℕ → ℕ → ℕ → ℕ
 gateBy group granted chosen skids tanks s o r = gateNumber skids tanks s o r (grantedIn group granted chosen s o r)

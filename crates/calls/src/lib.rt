@@ -99,13 +99,13 @@ fn is_granted<'a, 'b>(
     o: u8,
     r: u8,
 ) -> bool
-    requires { ⌜ (s < 8) × ((o < 64) × (r < 3)) ⌝ }
+    requires { ⌜ (s < 8) × (o < 64) ⌝ }
     requires { ⌜ getD (now group) o 0 < 8 ⌝ }
     ensures { λ x. ⌜ x ≡ grantedIn (now (group .entry)) (now (granted .entry)) (now (chosen .entry)) s o r ⌝ }
 {
     let at = s * 8 + wide(group[o as usize]);
     let x = granted[at];
-    (chosen[at] == o) & ((x >> r) % 2 == 1)
+    (chosen[at] == o) & (x & Right::mask(r) != 0)
 }
 
 // Whether skid s holds right r on tank o, by the record.
@@ -118,7 +118,7 @@ pub fn is_held<'a, 'b>(
     o: u8,
     r: u8,
 ) -> bool
-    requires { ⌜ (s < 8) × ((o < 64) × (r < 3)) ⌝ }
+    requires { ⌜ (s < 8) × (o < 64) ⌝ }
     requires { ⌜ (getD (now group) o 0 < 8) × (taskKnown (now running) s ≡ true) ⌝ }
     ensures { λ x. ⌜ x ≡ heldIn (now (group .entry)) (now (rights .entry)) (now (running .entry)) (now (chosen .entry)) s o r ⌝ }
 {
@@ -128,7 +128,7 @@ pub fn is_held<'a, 'b>(
     }
     let g = wide(group[o as usize]);
     let x = rights[wide(t) * 8 + g];
-    if (x >> r) % 2 != 1 {
+    if x & Right::mask(r) == 0 {
         return false;
     }
     chosen[s * 8 + g] == o

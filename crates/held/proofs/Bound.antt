@@ -7,10 +7,10 @@ use native.Mathlib.Omega.{arith}
 use lib.Dec.{eqb}
 use lib.ListN.{length, getD}
 use borrow.Author.Tests.{eqb-true}
-use Rattle.base.specs.Bits.{bit}
 use Rattle.base.specs.Count.{countBelow}
 use Rattle.base.proofs.Logic.{split, and-true}
 use Rattle.base.proofs.Count.{count-all, count-none, count-places, collect-bound}
+use Rattle.plant.specs.Right.{rightNumbers, hasRight}
 use Rattle.plant.proofs.Links.{entry-at}
 use Rattle.rules.specs.Record.{chosenAt}
 use Rattle.calls.specs.Work.{heldIn}
@@ -24,12 +24,12 @@ module _ (group rights running chosen : List ℕ) where
   right-short : (s o r : ℕ) → length (rightIn group rights running chosen s o r) ≤ cond (chosenHere s o) 3 0
   unfolding chosenHere
   right-short s o r = split (heldIn group rights running chosen s o r)
-      (λ h. let e = and-true (bit (getD rights (getD running s 0 * 8 + getD group o 0) 0) r) (chosenHere s o) (and-true (not (eqb (getD running s 0) 255)) _ h .1) .1 in rw (h, e) (omega arith))
+      (λ h. let e = and-true (hasRight (getD rights (getD running s 0 * 8 + getD group o 0) 0) r) (chosenHere s o) (and-true (not (eqb (getD running s 0) 255)) _ h .1) .1 in rw (h, e) (omega arith))
       (λ h. rw h (omega arith))
 
   tank-short : (s o : ℕ) → length (tankIn group rights running chosen s o) ≤ cond (chosenHere s o) 9 0
   tank-short s o =
-      let b = collect-bound (rightIn group rights running chosen s o) (λ r. chosenHere s o) 3 3 (λ r l. right-short s o r) in
+      let b = collect-bound (λ i. rightIn group rights running chosen s o (getD rightNumbers i 0)) (λ i. chosenHere s o) 3 3 (λ i l. right-short s o (getD rightNumbers i 0)) in
       split (chosenHere s o)
       (λ h. rw h (omega (arith, b, count-all (λ r. chosenHere s o) 3)))
       (λ h. rw h (omega (arith, b, count-none (λ r. chosenHere s o) 3 (λ r l. h))))

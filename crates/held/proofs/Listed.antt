@@ -12,6 +12,8 @@ use Rattle.base.proofs.Logic.{split}
 use Rattle.base.proofs.Collected.{collect-same}
 use Rattle.base.proofs.Rising.{in-part, part-in, rising-collect, rising-unique}
 use Rattle.plant.specs.declared.Plant.{Plant}
+use Rattle.plant.specs.Right.{rightNumbers}
+use Rattle.plant.proofs.Rights.{number-at, number-rises}
 use Rattle.rules.specs.declared.Monitor.{Monitor}
 use Rattle.rules.specs.Rules.{View, holds}
 use Rattle.rules.specs.Record.{viewOf, intact}
@@ -65,20 +67,33 @@ module _ (P : Plant) (vs : ℕ → View) where
       (λ h. subst (λ (b : Bool). Rising Before (cond b (entry s o r ∷ []) [])) (sym h) (λ y i. absurd (List·Memᴰ·not-nil i), tt))
       (λ h. subst (λ (b : Bool). Rising Before (cond b (entry s o r ∷ []) [])) (sym h) tt)
 
+  -- the rights on a tank, in their order
+  abbrev numbered : ℕ → ℕ → ℕ → List HeldRight
+  numbered s o i = rightAt P vs s o (getD rightNumbers i 0)
+
   -- a member of the rights on a tank, of a skid's rights and of all
   in-on : (s o : ℕ) (x : HeldRight) → In x (rightsOn P vs s o) → (r : ℕ) × ((r < 3) × ((x ≡ entry s o r) × (holds P (vs s) o r ≡ true)))
-  in-on s o x i = let p = in-part (rightAt P vs s o) x 3 i in (p .0, (p .1 .0, at-one s o (p .0) x (p .1 .1)))
+  in-on s o x i =
+      let p = in-part (numbered s o) x 3 i in
+      let r = getD rightNumbers (p .0) 0 in
+      (r, (omega (arith, number-at (p .0) (p .1 .0), p .1 .0), at-one s o r x (p .1 .1)))
+
+  on-in : (s o r : ℕ) → r < 3 → holds P (vs s) o r ≡ true → In (entry s o r) (rightsOn P vs s o)
+  on-in s o r l h = part-in (numbered s o) (entry s o r) 3 r l (rw (number-at r l) (one-at s o r h))
 
   in-of : (s : ℕ) (x : HeldRight) → In x (rightsOf P vs s) → (o : ℕ) × ((o < P .tanks) × In x (rightsOn P vs s o))
   in-of s x i = in-part (rightsOn P vs s) x (P .tanks) i
 
   on-rising : (s o : ℕ) → Rising Before (rightsOn P vs s o)
-  on-rising s o = rising-collect Before (rightAt P vs s o) 3 (λ r l. one-rising s o r)
-      (λ i j a b x y u v. inr (
-        ap (λ (h : HeldRight). h .skid) (at-one s o i x u .0) ∙ sym (ap (λ (h : HeldRight). h .skid) (at-one s o j y v .0)),
+  on-rising s o = rising-collect Before (numbered s o) 3 (λ i l. one-rising s o (getD rightNumbers i 0))
+      (λ i j a b x y u v.
+      let e = at-one s o (getD rightNumbers i 0) x u .0 in
+      let f = at-one s o (getD rightNumbers j 0) y v .0 in
+      inr (
+        ap (λ (h : HeldRight). h .skid) e ∙ sym (ap (λ (h : HeldRight). h .skid) f),
         inr (
-          ap (λ (h : HeldRight). h .tank) (at-one s o i x u .0) ∙ sym (ap (λ (h : HeldRight). h .tank) (at-one s o j y v .0)),
-          omega (arith, ap (λ (h : HeldRight). h .right) (at-one s o i x u .0), ap (λ (h : HeldRight). h .right) (at-one s o j y v .0)),
+          ap (λ (h : HeldRight). h .tank) e ∙ sym (ap (λ (h : HeldRight). h .tank) f),
+          omega (arith, ap (λ (h : HeldRight). h .right) e, ap (λ (h : HeldRight). h .right) f, number-rises i j a b),
         ),
       ))
 
@@ -111,7 +126,7 @@ module _ (P : Plant) (vs : ℕ → View) where
           let c : r ≡ u .0 = ap (λ (h : HeldRight). h .right) (u .1 .1 .0) in
           record { skid = omega (arith, p .1 .0); tank = omega (arith, q .1 .0); right = omega (arith, u .1 .0); held = moved (sym a) (sym b) (sym c) (u .1 .1 .1) },
       λ h. part-in (rightsOf P vs) (entry s o r) (P .skids) s (h .skid)
-          (part-in (rightsOn P vs s) (entry s o r) (P .tanks) o (h .tank) (part-in (rightAt P vs s o) (entry s o r) 3 r (h .right) (one-at s o r (h .held)))),
+          (part-in (rightsOn P vs s) (entry s o r) (P .tanks) o (h .tank) (on-in s o r (h .right) (h .held))),
     );
     rising = rising-collect Before (rightsOf P vs) (P .skids) (λ s l. of-rising s) (λ i j a b x y u v. inl (omega (arith, skid-is i x u, skid-is j y v)));
   }
@@ -161,7 +176,7 @@ module _ (m : Monitor) (i : intact (m .plant) m ≡ true) where
   unfolding rightsHeld
   rights-same =
       collect-same _ _ (P .skids) (λ s a.
-      collect-same _ _ (P .tanks) (λ o b. collect-same _ _ 3 (λ r c. one-same s o r a b) ∙ sym (bytes-collect (rightAt P vs s o) 3))
+      collect-same _ _ (P .tanks) (λ o b. collect-same _ _ 3 (λ i c. one-same s o (getD rightNumbers i 0) a b) ∙ sym (bytes-collect (numbered P vs s o) 3))
       ∙ sym (bytes-collect (rightsOn P vs s) (P .tanks)))
       ∙ sym (bytes-collect (rightsOf P vs) (P .skids))
 

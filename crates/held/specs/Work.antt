@@ -3,10 +3,11 @@ use Prim.Native.Nat.{ℕ, _/_, _≤_}
 use mathlib.Core.Path.{_≡_}
 use mathlib.Core.Bool.{true, cond}
 use mathlib.Core.List.{List, [], _∷_}
-use lib.ListN.{length}
+use lib.ListN.{length, getD}
 use Rattle.base.specs.Below.{allBelow}
 use Rattle.base.specs.Collect.{collect}
 use Rattle.plant.specs.Checks.{entryBelow}
+use Rattle.plant.specs.Right.{rightNumbers}
 use Rattle.calls.specs.Work.{heldIn, taskKnown}
 
 -- what the writer leans on in the arrays
@@ -21,7 +22,7 @@ module _ (group rights running chosen : List ℕ) where
   rightIn s o r = cond (heldIn group rights running chosen s o r) (s ∷ o ∷ r ∷ []) []
 
   abbrev pub tankIn : ℕ → ℕ → List ℕ
-  tankIn s o = collect (rightIn s o) 3
+  tankIn s o = collect (λ i. rightIn s o (getD rightNumbers i 0)) (length rightNumbers)
 
   abbrev pub skidIn : ℕ → ℕ → List ℕ
   skidIn tanks s = collect (tankIn s) tanks

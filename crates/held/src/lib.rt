@@ -6,6 +6,7 @@ ghost use lib.ListN.{length};
 ghost use Rattle.base.specs.Overlay.{overlay, Wrote};
 ghost use Rattle.held.specs.Work.{Known, rightIn, tankIn, skidIn, skidsIn, listIn};
 use calls::is_held;
+use plant::Right;
 
 fn put_right(out: &mut [u8], at: usize, skid: u8, tank: u8, right: u8) -> usize
     requires { ⌜ at + 3 ≤ length (now out) ⌝ }
@@ -34,7 +35,7 @@ fn write_right<'a, 'b>(
     at: usize,
 ) -> usize
     requires { ⌜ Known (now group) (now running) skids tanks ⌝ }
-    requires { ⌜ (s < skids) × ((o < tanks) × (r < 3)) ⌝ }
+    requires { ⌜ (s < skids) × (o < tanks) ⌝ }
     requires { ⌜ at + length (rightIn (now group) (now rights) (now running) (now chosen) s o r) ≤ length (now out) ⌝ }
     ensures { λ x. ⌜ Wrote (rightIn (now (group .entry)) (now (rights .entry)) (now (running .entry)) (now (chosen .entry)) s o r) (now (out .entry)) at (now (out .exit)) x ⌝ }
 {
@@ -44,6 +45,7 @@ fn write_right<'a, 'b>(
     at
 }
 
+// The rights on tank o in their order, so that the list rises.
 fn write_tank<'a, 'b>(
     group: &'a [u8; 64],
     rights: &'a [u8; 128],
@@ -61,9 +63,9 @@ fn write_tank<'a, 'b>(
     requires { ⌜ at + length (tankIn (now group) (now rights) (now running) (now chosen) s o) ≤ length (now out) ⌝ }
     ensures { λ x. ⌜ Wrote (tankIn (now (group .entry)) (now (rights .entry)) (now (running .entry)) (now (chosen .entry)) s o) (now (out .entry)) at (now (out .exit)) x ⌝ }
 {
+    let numbers = Right::numbers();
     let mut end = at;
-    let mut r: u8 = 0;
-    while r < 3 {
+    for i in 0..numbers.len() {
         end = write_right(
             group,
             rights,
@@ -73,11 +75,10 @@ fn write_tank<'a, 'b>(
             tanks,
             s,
             o,
-            r,
+            numbers[i],
             out,
             end,
         );
-        r += 1;
     }
     end
 }

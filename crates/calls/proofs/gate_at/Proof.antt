@@ -36,7 +36,7 @@ is-granted-requires : tie.Need-is-granted-requires
 is-granted-requires c κs =
     let s = c .before .before in
     let k = there c in
-    ((omega (arith, k .0, s .pre .0 .0), (omega (arith, k .1 .0, s .pre .0 .1), k .1 .1)), entry-at (s .args .group .now) 8 (s .args .tanks) (s .args .o) (s .pre .1) (k .1 .0))
+    ((omega (arith, k .0, s .pre .0 .0), omega (arith, k .1 .0, s .pre .0 .1)), entry-at (s .args .group .now) 8 (s .args .tanks) (s .args .o) (s .pre .1) (k .1 .0))
 
 returns-2 : tie.Need-returns-2
 returns-2 c =

@@ -4,7 +4,9 @@ use Rattle.calls.proofs.is_granted.Statement.{statement}
 use Rattle.calls.proofs.is_granted.Tie as tie
 
 returns : tie.Need-returns
-returns c = simp (c .before .before .wide .ensures)
+returns c = simp (c .mask .ensures, c .before .before .before .wide .ensures)
 
 pub is-granted-spec : {M : Type 1} → statement M
-is-granted-spec = tie.close (tie.spec (λ c. search needs) (λ c. search needs) (λ c κs. search needs) (λ c. search needs) (λ c. search needs) (λ c. search needs) (λ c. search needs) returns)
+is-granted-spec =
+    tie.close
+    (tie.spec (λ c. search needs) (λ c. search needs) (λ c κs. search needs) (λ c. search needs) (λ c. search needs) (λ c. search needs) (λ c κs. search needs) returns)

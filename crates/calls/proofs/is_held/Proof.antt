@@ -26,17 +26,17 @@ element-copy-out-x c =
 
 returns-2 : tie.Need-returns-2
 returns-2 c =
-    let w = c .before .before in
+    let w = c .before .before .before in
     let i = w .before .before .before in
-    simp (ne-eqb _ _ (i .if1 .left), ne-eqb _ _ (rw (w .wide2 .ensures, w .before .wide .ensures) at (c .if2 .taken)))
+    simp (ne-eqb _ _ (i .if1 .left), eq-eqb _ _ (rw (c .before .mask .ensures, w .wide2 .ensures, w .before .wide .ensures) at (c .if2 .taken)))
 
 returns-3 : tie.Need-returns-3
 returns-3 c =
-    let w = c .before .before .before in
+    let w = c .before .before .before .before in
     let i = w .before .before .before in
-    simp (ne-eqb _ _ (i .if1 .left), eq-eqb _ _ (rw (w .wide2 .ensures, w .before .wide .ensures) at (c .before .if2 .left)), w .before .wide .ensures)
+    simp (ne-eqb _ _ (i .if1 .left), ne-eqb _ _ (rw (c .before .before .mask .ensures, w .wide2 .ensures, w .before .wide .ensures) at (c .before .if2 .left)), w .before .wide .ensures)
 
 pub is-held-spec : {M : Type 1} → statement M
 is-held-spec =
     tie.close
-    (tie.spec (λ c. search needs) returns (λ c. search needs) (λ c κs. search needs) (λ c κs. search needs) mul-x add-x element-copy-out-x (λ c. search needs) returns-2 (λ c. search needs) (λ c. search needs) (λ c. search needs) returns-3)
+    (tie.spec (λ c. search needs) returns (λ c. search needs) (λ c κs. search needs) (λ c κs. search needs) mul-x add-x element-copy-out-x (λ c κs. search needs) returns-2 (λ c. search needs) (λ c. search needs) (λ c. search needs) returns-3)

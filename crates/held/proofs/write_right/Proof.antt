@@ -12,7 +12,7 @@ is-held-requires : tie.Need-is-held-requires
 is-held-requires c κs =
     let s = c .before in
     let k = s .pre .0 in
-    (search needs, (entry-at (s .args .group .now) 8 (s .args .tanks) (s .args .o) (k .groups-there) (s .pre .1 .0 .1 .0), all-at (s .args .skids) (taskKnown (s .args .running .now)) (k .tasks-known) (s .args .s) (s .pre .1 .0 .0)))
+    (search needs, (entry-at (s .args .group .now) 8 (s .args .tanks) (s .args .o) (k .groups-there) (s .pre .1 .0 .1), all-at (s .args .skids) (taskKnown (s .args .running .now)) (k .tasks-known) (s .args .s) (s .pre .1 .0 .0)))
 
 put-right-requires : tie.Need-put-right-requires
 put-right-requires c κs =
