@@ -61,10 +61,11 @@ skidTasks = firstCell skids
 abbrev pub zeroByte : ℕ
 zeroByte = 1
 
--- The cells c of the n records in s, one after the other, in a list with room for the most records. Past the n records it has zeros.
+-- zeros, with room for the cells c of the most records
 abbrev pub room : Cell → List ℕ
 room c = replicate (limit (c .section) * c .run) 0
 
+-- The cells c of the n records in s, one after the other. Past the n records the list has zeros.
 abbrev pub bytesIn : Cell → List ℕ → ℕ → List ℕ
 bytesIn c s n = bytesOf s (width (c .section)) (c .from) (c .run) n (room c)
 
