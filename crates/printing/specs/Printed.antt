@@ -5,7 +5,7 @@ use mathlib.Core.List.{List, [], _∷_}
 use lib.Dec.{ltb}
 use lib.ListN.{length, take, drop}
 use Rattle.base.specs.Overlay.{Wrote}
-use Rattle.layout.specs.Layout.{wordAt, headerBytes}
+use Rattle.layout.specs.Layout.{wordAt, headerBytes, lengthAt}
 use Rattle.reader.specs.Reading.{readingOf}
 use Rattle.panel.specs.Batch.{requestCount, batchRefusal, batchCalls, outcome}
 use Rattle.printing.specs.Text.{codes, line, refusalLine, outcomeLines}
@@ -19,9 +19,9 @@ unfoldable pub batchLines : List ℕ → List ℕ → List ℕ
 batchLines plant requests =
     outcomeLines (batchRefusal plant requests (requestCount requests + 577)) (requestCount requests) (outcome (readingOf plant .plant) (batchCalls requests))
 
--- bytes 20 and 21: the plant file's length
+-- the plant file's length, as its header says
 abbrev pub plantLength : List ℕ → ℕ
-plantLength input = wordAt input 20
+plantLength input = wordAt input lengthAt
 
 -- Input that ends before the header or before the plant does is refused as a file of another length than it says, 1.
 unfoldable pub printed : List ℕ → List ℕ

@@ -1,12 +1,13 @@
 // The program's input as a plant and requests, and the text of what the batch makes of them.
-ghost use mathlib.Core.Path.{_≡_};
 ghost use Prim.Native.Nat.{_<_, _≤_};
 ghost use lib.ListN.{length};
 ghost use Rattle.base.specs.Overlay.{Wrote};
-ghost use Rattle.printing.specs.Printed.{batchLines, plantLength, printed, PrintsRead};
+ghost use Rattle.printing.specs.Printed.{batchLines, printed, PrintsRead};
 use crate::print_outcome;
 use crate::put_refusal;
 use crate::put_word;
+use layout::HEADER_BYTES;
+use layout::length_said;
 use panel::permits_batch;
 
 // What the program reads into: one byte more than is taken, so that longer input shows.
@@ -17,19 +18,6 @@ const RESULTS: usize = 13107 + 766;
 
 // Room for 13,107 lines of ten bytes, the held line, and 255 lines of twelve.
 pub const TEXT: usize = 131070 + 3069;
-
-fn wide(x: u8) -> usize
-    ensures { λ r. ⌜ (r ≡ x) × (r < 256) ⌝ }
-{
-    x as usize
-}
-
-fn plant_length(input: &[u8]) -> usize
-    requires { ⌜ 24 ≤ length (now input) ⌝ }
-    ensures { λ r. ⌜ r ≡ plantLength (now (input .entry)) ⌝ }
-{
-    wide(input[20]) + wide(input[21]) * 256
-}
 
 fn print_batch(plant: &[u8], requests: &[u8], text: &mut [u8]) -> usize
     requires { ⌜ (length (now requests) ≤ 65536) × (134139 ≤ length (now text)) ⌝ }
@@ -47,10 +35,10 @@ fn print_session(input: &[u8], text: &mut [u8; TEXT]) -> usize
     if input.len() > 65536 {
         return put_word(text, 0, b"long\n");
     }
-    if input.len() < 24 {
+    if input.len() < HEADER_BYTES {
         return put_refusal(text, 0, 1);
     }
-    let k = plant_length(input);
+    let k = length_said(input);
     if input.len() < k {
         return put_refusal(text, 0, 1);
     }

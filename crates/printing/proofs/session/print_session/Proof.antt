@@ -32,7 +32,7 @@ returns-3 c =
     let p = t .before in
     let e = p .before in
     let input = e .before .before .before .args .input .now in
-    wrote-as (sym (cut-lines input (omega (arith, e .before .if1 .left)) (omega (arith, e .if2 .left)) (rw (p .plant-length .ensures) at (t .if3 .taken)))) (c .put-refusal2 .ensures)
+    wrote-as (sym (cut-lines input (omega (arith, e .before .if1 .left)) (omega (arith, e .if2 .left)) (rw (p .length-said .ensures .0) at (t .if3 .taken)))) (c .put-refusal2 .ensures)
 
 slice-aggregate-print-batch : tie.Need-slice-aggregate-print-batch
 slice-aggregate-print-batch c = sym (length-take-le _ _ (omega (arith, c .before .if3 .left)))
@@ -44,8 +44,8 @@ returns-4 c =
     let e = p .before in
     let input = e .before .before .before .args .input .now in
     wrote-as
-    (sym (whole-lines input (omega (arith, e .before .if1 .left)) (omega (arith, e .if2 .left)) (rw (p .plant-length .ensures) at (t .if3 .left))))
-    (rw (part-from, p .plant-length .ensures) at (c .print-batch .ensures))
+    (sym (whole-lines input (omega (arith, e .before .if1 .left)) (omega (arith, e .if2 .left)) (rw (p .length-said .ensures .0) at (t .if3 .left))))
+    (rw (part-from, p .length-said .ensures .0) at (c .print-batch .ensures))
 
 pub print-session-spec : {M : Type 1} → statement M
 print-session-spec =
