@@ -1,8 +1,8 @@
-"""Reads off the source that the public calls have promises and no preconditions: no proof asks for that, since a `requires` only makes a
-function easier to prove.
+"""Reads off the source that the public calls have no preconditions and the promises that stand once more in promises.txt: no proof asks for that,
+since a `requires`, or a condition or a part less in a promise, only makes a function easier to prove.
 
     promises.py check ROOT     the calls of the table in README.md, and the functions exported for C
-    promises.py itself ROOT    that the check fails where one of them gets a precondition or loses its promise, its row or its declaration
+    promises.py itself ROOT    that the check fails where one of them gets a precondition or another promise, or loses its row or its declaration
 """
 import re
 import shutil
@@ -68,18 +68,39 @@ def declared(root):
     return set(re.findall(r"^\w+ (\w+)\(.*;$", (root / "include/permits.h").read_text(), re.M))
 
 
+def promise(f):
+    """What stands in the braces of the function's `ensures`, in one line, and the crates' modules that have the definitions it names."""
+    text = f.path.read_text()
+    parts = [text[f.places[k] : f.places[k + 1]] for k, clause in enumerate(f.clauses) if clause == "ensures"]
+    said = " ".join(" ".join(part[part.index("{") + 1 : part.rindex("}")].split()) for part in parts)
+    uses = re.findall(r"^ghost use Rattle·([^{;]+)\.\{([^}]*)\};", text, re.M)
+    modules = sorted(module for module, names in uses if set(names.split(", ")) & set(re.findall(r"[\w-]+", said)))
+    return " ".join([said, "by", *modules])
+
+
+def stated(root):
+    """The promise of each call, as promises.txt has it: a line for each, the name first."""
+    lines = (root / "tests/promises/promises.txt").read_text().splitlines()
+    return dict(line.split(": ", 1) for line in lines if line and not line.startswith("#"))
+
+
 def complaints(root):
     """What is wrong, each with the name of its call first."""
     found = list(functions(root))
     named = list(calls(root))
+    promises = stated(root)
     for name, crates in named:
         ours = [f for f in found if f.public and f.name == name and f.crate in crates]
         if len(ours) != 1:
             yield f"{name}: README.md's table has it in {' or '.join(crates)}, which has {len(ours)} public functions of that name"
         for f in ours:
             yield from unkept(f)
+            if promise(f) != promises.get(name):
+                yield f"{name}: another promise than in promises.txt, {f.path}"
     rows = {name for name, _ in named}
     exported = {f.name for f in found if f.exported}
+    for name in sorted(set(promises) - rows):
+        yield f"{name}: in promises.txt, and not in README.md's table"
     for name in sorted(exported - rows):
         yield f"{name}: exported for C, and not in README.md's table"
     for name in sorted(exported ^ declared(root)):
@@ -103,6 +124,8 @@ def wrong(root):
         for place in f.places:
             yield f"{name}: a public call with `requires`", f.path, text[:place] + "requires { ⌜ ⊥ ⌝ }\n" + text[place:]
         yield f"{name}: a public call without `ensures`", f.path, text[: f.places[0]] + text[f.places[-1] :]
+        yield f"{name}: another promise", f.path, text[: f.places[0]] + text[f.places[0] :].replace("⌜ ", "⌜ ⊥ → ", 1)
+        yield f"{name}: another promise", f.path, text.replace("ghost use Rattle·", "ghost use Rattle.other.")
         yield f"{name}: README.md's table", f.path, re.sub(rf"\bfn {name}\b", f"fn {name}_other", text, count=1)
     for name in {f.name for f in found if f.exported}:
         for path in root / "README.md", root / "include/permits.h":
@@ -114,7 +137,7 @@ def itself(root):
     passed = failed = 0
     with tempfile.TemporaryDirectory() as folder:
         copy = Path(folder)
-        for path in ["README.md", "include/permits.h", *(f.path.relative_to(root) for f in functions(root))]:
+        for path in ["README.md", "include/permits.h", "tests/promises/promises.txt", *(f.path.relative_to(root) for f in functions(root))]:
             (copy / path).parent.mkdir(parents=True, exist_ok=True)
             shutil.copy(root / path, copy / path)
         for expected, path, text in wrong(copy):
