@@ -12,6 +12,8 @@
 #ifndef PERMITS_H
 #define PERMITS_H
 
+#define PERMITS_VERSION "0.1.0"
+
 #include <assert.h>
 #include <stddef.h>
 #include <stdint.h>

@@ -46,6 +46,15 @@ stage() {
     rm -f "$log"
 }
 
+# need COMMAND PACKAGE WHY: without the command the script fails here, and says which package of Debian has it
+need() {
+    if ! command -v "$1" >/dev/null; then
+        echo "FAILED: $1 is missing (Debian's package $2): $3"
+        failed=$((failed + 1))
+        report || exit
+    fi
+}
+
 # report: the last line of a script, and its exit status
 report() {
     echo "$passed passed, $failed failed"
