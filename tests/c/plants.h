@@ -1,5 +1,6 @@
-/* Plant files for the C tests: 01's plant, the same broken once for each number that refuses a file, and a plant of
- * which all 192 rights can be held. */
+/* What the C tests run on, written from 01: its plant, requests and answers, the plant broken once for each number that
+ * refuses a file, and a plant of which all 192 rights can be held. Answers are 01's numbers; numbers.c holds the names
+ * of include/permits.h to them. */
 #ifndef TESTS_PLANTS_H
 #define TESTS_PLANTS_H
 
@@ -23,6 +24,23 @@ static const uint8_t plant[132] = {
     [118] = 1, 0, 2, 0,         /* task 1 names requirement 0; return on group 0 */
     [128] = 3, 0, 2, 0,         /* skid 0 may run both tasks, skid 1 task 1 */
 };
+
+/* The requests of 01's session: kind and four bytes each. */
+static const uint8_t session[50] = {
+    1, 0, 0, 0, 0, /* start 0 0 */
+    0, 0, 0, 0, 1, /* set 0 0 0 1 */
+    0, 0, 0, 1, 3, /* set 0 0 1 3 */
+    1, 0, 0, 0, 0, /* start 0 0 */
+    3, 0, 0, 0, 0, /* gate 0 0 0 */
+    0, 0, 0, 0, 2, /* set 0 0 0 2 */
+    3, 0, 1, 0, 0, /* gate 0 1 0 */
+    1, 0, 1, 0, 0, /* start 0 1 */
+    2, 1, 0, 0, 0, /* stop 1 */
+    1, 1, 0, 0, 0, /* start 1 0 */
+};
+
+/* Its ten answers, the count of rights held at its end, and skid, tank and right of each. */
+static const uint8_t session_list[20] = {27, 0, 0, 0, 0, 0, 33, 26, 0, 25, 3, 0, 0, 0, 0, 2, 0, 0, 2, 2};
 
 /* 01's plant with up to four bytes changed, and the number that refuses it. */
 typedef struct broken {
