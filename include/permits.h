@@ -24,10 +24,11 @@
 #include <stddef.h>
 #include <stdint.h>
 
-/* The version of this header and of the archives built with it; it stands nowhere else. While the major number is 0,
- * names and layouts may still change: then the minor number rises, and the patch number with every other release. From
- * 1 on, the major number rises where a caller's source or its records no longer fit, the minor number where something
- * is added, the patch number with every other release. A number that rises sets those behind it to 0. */
+/* The version of this header and of the archives built with it. It stands here alone: the build reads PERMITS_VERSION
+ * from this file. While the major number is 0, names and layouts may still change; the minor number rises when they do
+ * or when something is added, the patch number with every other release. From 1 on, the major number rises when a
+ * caller's source or stored records no longer fit, the minor number when something is added, the patch number with every
+ * other release. A number that rises sets those behind it to 0. */
 #define PERMITS_VERSION_MAJOR 0
 #define PERMITS_VERSION_MINOR 1
 #define PERMITS_VERSION_PATCH 0
