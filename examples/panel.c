@@ -1,41 +1,63 @@
-/* 01's session on a panel: one batch call, then its answers and the rights held.
+/* A panel: one batch call on a file of requests, then its answers and the rights held.
  *
- *     rt staticlib panel
- *     gcc -std=c11 -Iinclude examples/panel.c target/staticlib/libpanel.a -o panel && ./panel
+ *     gcc -std=c11 -Iinclude examples/panel.c target/staticlib/libpanel.a -o panel
+ *     ./panel examples/session.plant examples/session.requests
  */
 #include "permits.h"
-#include "plant.h"
 
 #include <stdio.h>
+#include <stdlib.h>
 
-static const uint8_t requests[] = {
-    PERMITS_START, 0, 0, 0, 0, /* skid 0, task 0: refused, no level is set yet */
-    PERMITS_SET,   0, 0, 0, 1, /* skid 0, task 0, requirement 0: level 1 */
-    PERMITS_SET,   0, 0, 1, 3, /* and requirement 1: level 3 */
-    PERMITS_START, 0, 0, 0, 0,
-    PERMITS_GATE,  0, 0, PERMITS_DRAW, 0, /* skid 0, tank 0 */
-    PERMITS_SET,   0, 0, 0, 2, /* a level set during the task is for the next start */
-    PERMITS_GATE,  0, 1, PERMITS_DRAW, 0,
-    PERMITS_START, 0, 1, 0, 0, /* refused, skid 0 runs task 0 */
-    PERMITS_STOP,  1, 0, 0, 0, /* skid 1 runs nothing */
-    PERMITS_START, 1, 0, 0, 0, /* refused, skid 1 may not run task 0 */
-};
+enum { REQUESTS = 10000 };
 
-enum { COUNT = sizeof requests / 5 };
-
-int main(void)
+/* Reads the file into the bytes and returns its length; ends the program where that cannot be. */
+static size_t read_file(const char *name, uint8_t *bytes, size_t room)
 {
-    uint8_t out[PERMITS_ROOM(COUNT)];
-    uint8_t answer = permits_batch(plant, sizeof plant, requests, sizeof requests, out, sizeof out);
-    if (answer != PERMITS_ACCEPTED) {
-        printf("refused: %u\n", answer);
+    FILE *file = fopen(name, "rb");
+    size_t length = file == NULL ? 0 : fread(bytes, 1, room, file);
+
+    if (file == NULL || ferror(file)) {
+        perror(name);
+        exit(1);
+    }
+    if (fgetc(file) != EOF) {
+        fprintf(stderr, "%s: longer than %zu bytes\n", name, room);
+        exit(1);
+    }
+    fclose(file);
+    return length;
+}
+
+static void print_answers(const uint8_t *answers, size_t count)
+{
+    for (size_t i = 0; i < count; i++)
+        printf("%zu %u\n", i + 1, answers[i]);
+}
+
+/* The count, and then skid, tank and right of each right held. */
+static void print_held(const uint8_t *held)
+{
+    printf("held %u\n", held[0]);
+    for (size_t i = 0; i < held[0]; i++)
+        printf("%u %u %u\n", held[3 * i + 1], held[3 * i + 2], held[3 * i + 3]);
+}
+
+int main(int argc, char **argv)
+{
+    static uint8_t plant[4096], requests[5 * REQUESTS], out[PERMITS_ROOM(REQUESTS)];
+
+    if (argc != 3) {
+        fputs("usage: panel PLANT REQUESTS\n", stderr);
         return 1;
     }
-    for (unsigned i = 0; i < COUNT; i++)
-        printf("%u %u\n", i + 1, out[i]);
-    const uint8_t *held = out + COUNT;
-    printf("held %u\n", held[0]);
-    for (unsigned i = 0; i < held[0]; i++)
-        printf("%u %u %u\n", held[3 * i + 1], held[3 * i + 2], held[3 * i + 3]);
+    size_t plant_length = read_file(argv[1], plant, sizeof plant);
+    size_t requests_length = read_file(argv[2], requests, sizeof requests);
+    uint8_t number = permits_batch(plant, plant_length, requests, requests_length, out, sizeof out);
+    if (number != PERMITS_ACCEPTED) {
+        fprintf(stderr, "refused with %u: %s\n", number, permits_text(number));
+        return 1;
+    }
+    print_answers(out, requests_length / 5);
+    print_held(out + requests_length / 5);
     return 0;
 }

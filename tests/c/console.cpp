@@ -8,8 +8,11 @@ int main()
     const uint8_t file[1] = {1};
     uint8_t answer = PERMITS_ACCEPTED;
 
-    bool ok = permits_open(&m, file, sizeof file) == PERMITS_LENGTH && permits_set(&m, 0, 0, 0, 0) == PERMITS_RECORD &&
-        permits_start(&m, 0, 0) == PERMITS_RECORD && permits_stop(&m, 0) == PERMITS_RECORD && permits_gate(&m, 0, 0, PERMITS_DRAW) == PERMITS_RECORD &&
-        permits_queue(&m, &stop, 1, &answer, 1) == PERMITS_RECORD && answer == PERMITS_ACCEPTED;
-    return ok ? 0 : 1;
+    bool refused = permits_open(&m, file, sizeof file) == PERMITS_WRONG_LENGTH;
+    refused = refused && permits_set(&m, 0, 0, 0, 0) == PERMITS_MONITOR_NOT_INTACT;
+    refused = refused && permits_start(&m, 0, 0) == PERMITS_MONITOR_NOT_INTACT;
+    refused = refused && permits_stop(&m, 0) == PERMITS_MONITOR_NOT_INTACT;
+    refused = refused && permits_gate(&m, 0, 0, PERMITS_DRAW) == PERMITS_MONITOR_NOT_INTACT;
+    refused = refused && permits_queue(&m, &stop, 1, &answer, 1) == PERMITS_MONITOR_NOT_INTACT;
+    return refused && answer == PERMITS_ACCEPTED ? 0 : 1;
 }

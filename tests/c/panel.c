@@ -1,160 +1,216 @@
-/* The panel's batch call on bad input, on buffers that just fit and just don't, and on 01's session; and the section call. */
-#include "check.h"
+/* The panel's batch call on bad input, on buffers that just fit and just don't, and on 01's session; and the section
+ * call. */
+#include "lent.h"
 #include "permits.h"
 #include "plants.h"
 
-static const uint8_t session[50] = {
-    PERMITS_START, 0, 0, 0, 0, PERMITS_SET, 0, 0, 0, 1, PERMITS_SET, 0, 0, 1, 3, PERMITS_START, 0, 0, 0, 0,
-    PERMITS_GATE, 0, 0, 0, 0, PERMITS_SET, 0, 0, 0, 2, PERMITS_GATE, 0, 1, 0, 0, PERMITS_START, 0, 1, 0, 0,
-    PERMITS_STOP, 1, 0, 0, 0, PERMITS_START, 1, 0, 0, 0,
-};
+static const part paper = {plant, sizeof plant};
+static const part full = {full_plant, sizeof full_plant};
+static const part calls = {session, sizeof session};
+static const part list = {session_list, sizeof session_list};
+static const part nothing = {"", 0};
 
-/* The answers, the count of rights held, and the rights. */
-static const uint8_t session_list[20] = {27, 0, 0, 0, 0, 0, 33, 26, 0, 25, 3, 0, 0, 0, 0, 2, 0, 0, 2, 2};
-
-/* A batch with every part between guard bytes: it returns the number, and the buffer begins with the list and is otherwise as it was. */
-static void gives(const char *what, uint8_t number, const uint8_t *file, size_t file_len, const uint8_t *requests, size_t requests_len,
-    const uint8_t *list, size_t list_len, size_t room)
+/* The first bytes of a part. */
+static part first(part p, size_t length)
 {
-    uint8_t *f = guarded_copy(file, file_len);
-    uint8_t *r = guarded_copy(requests, requests_len);
-    uint8_t *out = guarded(room);
-    uint8_t answer = permits_batch(f, file_len, r, requests_len, out, room);
+    return (part){p.bytes, length};
+}
+
+/* A batch with everything lent on that side. */
+static void batch_on(side side, const char *what, uint8_t number, part file, part requests, part written, size_t room)
+{
+    lent f = lend(side, file);
+    lent r = lend(side, requests);
+    lent out = lend_room(side, room);
+
+    under_test = what;
+    uint8_t answer = permits_batch(f.bytes, file.length, r.bytes, requests.length, out.bytes, room);
     check(answer == number, "%s: the number is %u, and should be %u", what, answer, number);
-    check(memcmp(out, list, list_len) == 0, "%s: the buffer begins with the answers and the rights held", what);
-    check(all_are(out + list_len, room - list_len, FILL) && guards_hold(out, room), "%s: nothing else is written", what);
-    check(untouched(f, file, file_len) && untouched(r, requests, requests_len), "%s: the input stays as it was", what);
-    release(f);
-    release(r);
-    release(out);
+    holds(out, written, what, "the buffer");
+    holds(f, file, what, "the plant");
+    holds(r, requests, what, "the requests");
+    give_back(f);
+    give_back(r);
+    give_back(out);
 }
 
-static void refuses(const char *what, uint8_t number, const uint8_t *file, size_t file_len, size_t requests_len, size_t room)
+/* It returns the number, the buffer of that room begins with what should be written and is otherwise as it was, and so
+ * are plant and requests. */
+static void gives(const char *what, uint8_t number, part file, part requests, part written, size_t room)
 {
-    gives(what, number, file, file_len, session, requests_len, session_list, 0, room);
+    for (side s = END; s < SIDES; s++)
+        batch_on(s, what, number, file, requests, written, room);
 }
 
-static void plants(void)
+static void refuses(const char *what, uint8_t number, part file, part requests, size_t room)
+{
+    gives(what, number, file, requests, nothing, room);
+}
+
+static void short_plants(void)
+{
+    uint8_t header[24];
+
+    refuses("no plant at all", 1, nothing, calls, 627);
+    refuses("no input at all", 1, nothing, nothing, 0);
+    refuses("a plant of 1 byte", 1, first(paper, 1), calls, 627);
+    refuses("a plant of 23 bytes", 1, first(paper, 23), calls, 627);
+    refuses("a plant of 24 bytes", 1, first(paper, 24), calls, 627);
+    refuses("a plant that lacks its last byte", 1, first(paper, 131), calls, 627);
+
+    memcpy(header, plant, sizeof header);
+    header[20] = 24;
+    refuses("a header alone", 5, (part){header, sizeof header}, calls, 627);
+}
+
+/* 01's plant with a gap behind it and another length in bytes 20 and 21; some of the lengths are over 65,535. */
+static void long_plants(void)
 {
     static uint8_t big[65536 + sizeof plant];
-    uint8_t file[sizeof plant];
+    part file = {big, sizeof big};
 
-    refuses("no plant at all", 1, plant, 0, 50, 627);
-    refuses("no input at all", 1, plant, 0, 0, 0);
-    refuses("a plant of 1 byte", 1, plant, 1, 50, 627);
-    refuses("a plant of 23 bytes", 1, plant, 23, 50, 627);
-    refuses("a plant of 24 bytes", 1, plant, 24, 50, 627);
-    refuses("a plant that lacks its last byte", 1, plant, 131, 50, 627);
-
-    memcpy(file, plant, 24);
-    file[20] = 24;
-    refuses("a header alone", 5, file, 24, 50, 627);
-
-    /* lengths whose low two bytes are what the header says */
     memcpy(big, plant, sizeof plant);
-    refuses("a plant of 65,536 + 132 bytes", 1, big, 65536 + 132, 50, 627);
+    refuses("a plant of 65,536 + 132 bytes", 1, file, calls, 627);
     big[20] = 0;
-    refuses("a plant of 65,536 bytes", 1, big, 65536, 50, 627);
+    refuses("a plant of 65,536 bytes", 1, first(file, 65536), calls, 627);
     big[20] = 1;
-    refuses("a plant of 65,537 bytes", 1, big, 65537, 50, 627);
-    big[20] = 1;
+    refuses("a plant of 65,537 bytes", 1, first(file, 65537), calls, 627);
     big[21] = 16;
-    refuses("a plant of 4,097 bytes", 1, big, 4097, 50, 627);
+    refuses("a plant of 4,097 bytes", 1, first(file, 4097), calls, 627);
     big[20] = 0;
-    gives("a plant of 4,096 bytes", 0, big, 4096, session, 50, session_list, 20, 627);
-
-    for (unsigned i = 0; i < BROKEN; i++) {
-        break_plant(&broken_plants[i], file);
-        refuses(broken_plants[i].what, broken_plants[i].number, file, sizeof file, 50, 627);
-        refuses(broken_plants[i].what, broken_plants[i].number, file, sizeof file, 49, 0);
-    }
+    gives("a plant of 4,096 bytes", 0, first(file, 4096), calls, list, 627);
 }
 
-static void requests(void)
+static void broken_ones(void)
 {
-    static const uint8_t none[1] = {0};
-    uint8_t unknown[5] = {4, 0, 0, 0, 0};
-    const uint8_t answer[2] = {32, 0};
-
-    for (size_t n = 46; n < 50; n++)
-        refuses("request bytes not a multiple of five", 34, plant, sizeof plant, n, 627);
-    refuses("one request byte, and no buffer", 34, plant, sizeof plant, 1, 0);
-    gives("no requests", 0, plant, sizeof plant, session, 0, none, 1, 577);
-    for (unsigned kind = 4; kind < 256; kind++) {
-        unknown[0] = (uint8_t)kind;
-        gives("a request of unknown kind", 0, plant, sizeof plant, unknown, 5, answer, 2, 578);
+    for (unsigned i = 0; i < BROKEN; i++) {
+        uint8_t file[sizeof plant];
+        const broken *b = &broken_plants[i];
+        break_plant(b, file);
+        refuses(b->what, b->number, (part){file, sizeof file}, calls, 627);
+        refuses(b->what, b->number, (part){file, sizeof file}, first(calls, 49), 0);
     }
 }
 
+static void cut_requests(void)
+{
+    for (size_t n = 46; n < 50; n++)
+        refuses("request bytes not a multiple of five", 34, paper, first(calls, n), 627);
+    refuses("one request byte, and no buffer", 34, paper, first(calls, 1), 0);
+}
+
+static void unknown_kinds(void)
+{
+    const uint8_t answer_and_count[2] = {32, 0};
+
+    for (unsigned kind = 4; kind < 256; kind++) {
+        uint8_t request[5] = {(uint8_t)kind, 0, 0, 0, 0};
+        gives("a request of unknown kind", 0, paper, (part){request, 5}, (part){answer_and_count, 2}, 578);
+    }
+}
+
+/* For n requests n + 577 bytes are enough, and none fewer. */
 static void buffers(void)
 {
-    refuses("no buffer", 31, plant, sizeof plant, 50, 0);
-    refuses("a buffer for the answers alone", 31, plant, sizeof plant, 50, 10);
-    refuses("a buffer for what would be written", 31, plant, sizeof plant, 50, 20);
-    refuses("a buffer one byte short", 31, plant, sizeof plant, 50, PERMITS_ROOM(10) - 1);
-    refuses("a buffer one byte short, and no requests", 31, plant, sizeof plant, 0, PERMITS_ROOM(0) - 1);
-    gives("01's session", 0, plant, sizeof plant, session, 50, session_list, 20, PERMITS_ROOM(10));
-    gives("01's session, and room to spare", 0, plant, sizeof plant, session, 50, session_list, 20, 4096);
+    const uint8_t none_held[1] = {0};
+
+    refuses("no buffer", 31, paper, calls, 0);
+    refuses("a buffer for the answers alone", 31, paper, calls, 10);
+    refuses("a buffer for what would be written", 31, paper, calls, 20);
+    refuses("a buffer one byte short", 31, paper, calls, 586);
+    refuses("a buffer one byte short, and no requests", 31, paper, nothing, 576);
+    gives("no requests", 0, paper, nothing, (part){none_held, 1}, 577);
+    gives("01's session", 0, paper, calls, list, 587);
+    gives("01's session, and room to spare", 0, paper, calls, list, 4096);
+}
+
+/* The 192 rights by skid, tank and right: three on each of eight tanks for each skid. */
+static void write_rights(uint8_t *rights)
+{
+    for (unsigned i = 0; i < 192; i++) {
+        rights[3 * i] = (uint8_t)(i / 24);
+        rights[3 * i + 1] = (uint8_t)(i / 3 % 8);
+        rights[3 * i + 2] = (uint8_t)(i % 3);
+    }
 }
 
 /* All 192 rights are held, so the buffer is written to its last byte. */
 static void every_right(void)
 {
-    uint8_t calls[80];
-    uint8_t list[PERMITS_ROOM(16)];
-    uint8_t *c = calls;
-    uint8_t *l = list + 16;
+    uint8_t requests[80] = {0};
+    uint8_t written[16 + 1 + 576] = {[16] = 192};
+    part r = {requests, sizeof requests}, w = {written, sizeof written};
 
-    for (uint8_t skid = 0; skid < 8; skid++, c += 10)
-        memcpy(c, (uint8_t[10]){PERMITS_SET, skid, 0, 0, 0, PERMITS_START, skid, 0, 0, 0}, 10);
-    memset(list, 0, 16);
-    *l++ = 192;
     for (uint8_t skid = 0; skid < 8; skid++)
-        for (uint8_t tank = 0; tank < 8; tank++)
-            for (uint8_t right = 0; right < 3; right++, l += 3)
-                memcpy(l, (uint8_t[3]){skid, tank, right}, 3);
-    gives("every right held", 0, full_plant, sizeof full_plant, calls, sizeof calls, list, sizeof list, sizeof list);
-    gives("every right held, one byte short", 31, full_plant, sizeof full_plant, calls, sizeof calls, list, 0, sizeof list - 1);
+        memcpy(requests + 10 * skid, (uint8_t[10]){PERMITS_SET, skid, 0, 0, 0, PERMITS_START, skid, 0, 0, 0}, 10);
+    write_rights(written + 17);
+    gives("every right held", 0, full, r, w, 593);
+    refuses("every right held, one byte short", 31, full, r, 592);
 }
 
-/* The section of this kind, or an empty part at 0; the file is between guard bytes. */
-static void place_is(const char *what, const uint8_t *file, size_t file_len, size_t kind, size_t begin, size_t length)
+static void place_on(side side, const char *what, part file, size_t kind, size_t begin, size_t length)
 {
-    uint8_t *f = guarded_copy(file, file_len);
-    permits_place p = permits_section(f, file_len, kind);
-    check(p.begin == begin && p.length == length, "%s, section %zu: %zu bytes from %zu, and should be %zu from %zu", what, kind, p.length,
-        p.begin, length, begin);
-    check(untouched(f, file, file_len), "%s, section %zu: the file stays as it was", what, kind);
-    release(f);
+    lent f = lend(side, file);
+
+    under_test = what;
+    permits_place p = permits_section(f.bytes, file.length, kind);
+    check(p.begin == begin && p.length == length, "%s, section %zu: %zu bytes from %zu, and should be %zu from %zu",
+        what, kind, p.length, p.begin, length, begin);
+    holds(f, file, what, "the plant");
+    give_back(f);
+}
+
+/* The section of this kind, or an empty part at 0. */
+static void place_is(const char *what, part file, size_t kind, size_t begin, size_t length)
+{
+    for (side s = END; s < SIDES; s++)
+        place_on(s, what, file, kind, begin, length);
+}
+
+/* A file that only breaks 7 to 12 has its sections. */
+static void broken_place(size_t kind, size_t begin, size_t length)
+{
+    for (unsigned i = 0; i < BROKEN; i++) {
+        uint8_t file[sizeof plant];
+        const broken *b = &broken_plants[i];
+        int placed = b->number > 6;
+        break_plant(b, file);
+        place_is(b->what, (part){file, sizeof file}, kind, placed ? begin : 0, placed ? length : 0);
+    }
 }
 
 static void sections(void)
 {
     static const size_t begin[6] = {24, 92, 96, 100, 108, 128};
     static const size_t length[6] = {68, 4, 4, 8, 20, 4};
-    static const size_t others[] = {6, 7, 255, 256, 65536, SIZE_MAX - 1, SIZE_MAX};
-    uint8_t file[sizeof plant];
 
-    for (size_t kind = PERMITS_LATTICES; kind <= PERMITS_SKIDS; kind++) {
-        place_is("01's plant", plant, sizeof plant, kind, begin[kind], length[kind]);
-        place_is("no bytes", plant, 0, kind, 0, 0);
-        place_is("a plant that lacks its last byte", plant, sizeof plant - 1, kind, 0, 0);
-        for (unsigned i = 0; i < BROKEN; i++) {
-            int placed = broken_plants[i].number > 6;
-            break_plant(&broken_plants[i], file);
-            place_is(broken_plants[i].what, file, sizeof file, kind, placed ? begin[kind] : 0, placed ? length[kind] : 0);
-        }
+    for (size_t kind = 0; kind < 6; kind++) {
+        place_is("01's plant", paper, kind, begin[kind], length[kind]);
+        place_is("no bytes", nothing, kind, 0, 0);
+        place_is("a plant that lacks its last byte", first(paper, 131), kind, 0, 0);
+        broken_place(kind, begin[kind], length[kind]);
     }
+}
+
+static void other_sections(void)
+{
+    static const size_t others[] = {6, 7, 255, 256, 65536, SIZE_MAX - 1, SIZE_MAX};
+
     for (size_t i = 0; i < sizeof others / sizeof others[0]; i++)
-        place_is("another kind", plant, sizeof plant, others[i], 0, 0);
+        place_is("another kind", paper, others[i], 0, 0);
 }
 
 int main(void)
 {
-    plants();
-    requests();
+    catch_faults();
+    short_plants();
+    long_plants();
+    broken_ones();
+    cut_requests();
+    unknown_kinds();
     buffers();
     every_right();
     sections();
+    other_sections();
     return report();
 }

@@ -1,10 +1,46 @@
-/* Plant files for the C tests: 01's plant broken once for each number that refuses a file, and a plant of which all 192 rights can be held. */
+/* What the C tests run on, written from 01: its plant, requests and answers, the plant broken once for each number that
+ * refuses a file, and a plant of which all 192 rights can be held. Answers are 01's numbers; numbers.c holds the names
+ * of include/permits.h to them. */
 #ifndef TESTS_PLANTS_H
 #define TESTS_PLANTS_H
 
-#include "../../examples/plant.h"
-
+#include <stdint.h>
 #include <string.h>
+
+/* The plant of 01's session, byte by byte from the paper. Unmentioned bytes are zero. */
+static const uint8_t plant[132] = {
+    1,                          /* edition */
+    2, 2, 2, 4, 2, 2, 0,        /* how many lattices, requirements, groups, tanks, tasks and skids; zero */
+    24, 0, 92, 0, 96, 0,        /* where lattices, requirements and groups begin, low byte first */
+    100, 0, 108, 0, 128, 0,     /* where tanks, tasks and skids begin */
+    132, 0, 0, 0,               /* the file's length; zeros */
+    [24] = 3, 0, 7, 0, 6, 0, 4, 0,         /* lattice 0: three levels, one above the other; their sets */
+    [58] = 4, 0, 15, 0, 10, 0, 12, 0, 8, 0, /* lattice 1: a bottom, two levels side by side, a top */
+    [92] = 0, 0, 1, 0,          /* requirement 0 is of lattice 0, requirement 1 of lattice 1 */
+    [96] = 0, 0, 1, 0,          /* group 0 has requirement 0, group 1 requirement 1 */
+    [100] = 0, 0, 0, 2,         /* tanks 0 and 1: of group 0, at levels 0 and 2 */
+    [104] = 1, 1, 1, 2,         /* tanks 2 and 3: of group 1, at levels 1 and 2 */
+    [108] = 3, 0, 1, 5,         /* task 0 names both requirements; draw on group 0, draw and sample on group 1 */
+    [118] = 1, 0, 2, 0,         /* task 1 names requirement 0; return on group 0 */
+    [128] = 3, 0, 2, 0,         /* skid 0 may run both tasks, skid 1 task 1 */
+};
+
+/* The requests of 01's session: kind and four bytes each. */
+static const uint8_t session[50] = {
+    1, 0, 0, 0, 0, /* start 0 0 */
+    0, 0, 0, 0, 1, /* set 0 0 0 1 */
+    0, 0, 0, 1, 3, /* set 0 0 1 3 */
+    1, 0, 0, 0, 0, /* start 0 0 */
+    3, 0, 0, 0, 0, /* gate 0 0 0 */
+    0, 0, 0, 0, 2, /* set 0 0 0 2 */
+    3, 0, 1, 0, 0, /* gate 0 1 0 */
+    1, 0, 1, 0, 0, /* start 0 1 */
+    2, 1, 0, 0, 0, /* stop 1 */
+    1, 1, 0, 0, 0, /* start 1 0 */
+};
+
+/* Its ten answers, the count of rights held at its end, and skid, tank and right of each. */
+static const uint8_t session_list[20] = {27, 0, 0, 0, 0, 0, 33, 26, 0, 25, 3, 0, 0, 0, 0, 2, 0, 0, 2, 2};
 
 /* 01's plant with up to four bytes changed, and the number that refuses it. */
 typedef struct broken {

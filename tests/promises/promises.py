@@ -1,7 +1,7 @@
 """Reads off the source that the public calls have no preconditions and the promises that stand once more in promises.txt: no proof asks for that,
 since a `requires`, or a condition or a part less in a promise, only makes a function easier to prove.
 
-    promises.py check ROOT     the calls of the table in README.md, and the functions exported for C
+    promises.py check ROOT     the calls of the two tables in README.md, and the functions exported for C
     promises.py itself ROOT    that the check fails where one of them gets a precondition or another promise, or loses its row or its declaration
 """
 import re
@@ -55,12 +55,14 @@ def functions(root):
 
 
 def calls(root):
-    """The calls of README.md's table and the crates of their row, of which one has the call."""
-    table = re.search(r"^## The calls\n(.*?)^## ", (root / "README.md").read_text(), re.M | re.S)[1]
-    for row in re.findall(r"^\| (`.*)$", table, re.M):
+    """The calls of README.md's two tables, from C and in Rattle, and the crates of their row, of which one has the call."""
+    tables = re.findall(r"^## The calls, [^\n]*\n(.*?)(?=^## )", (root / "README.md").read_text(), re.M | re.S)
+    found = {}
+    for row in re.findall(r"^\| (`.*)$", "".join(tables), re.M):
         cells = row.split("|")
         for name in re.findall(r"`(?:\w+::)*(\w+)\(", cells[0]):
-            yield name, cells[1].replace(",", " ").split()
+            found[name] = cells[1].replace(",", " ").split()
+    return found.items()
 
 
 def declared(root):
@@ -92,7 +94,7 @@ def complaints(root):
     for name, crates in named:
         ours = [f for f in found if f.public and f.name == name and f.crate in crates]
         if len(ours) != 1:
-            yield f"{name}: README.md's table has it in {' or '.join(crates)}, which has {len(ours)} public functions of that name"
+            yield f"{name}: README.md's tables have it in {' or '.join(crates)}, which has {len(ours)} public functions of that name"
         for f in ours:
             yield from unkept(f)
             if promise(f) != promises.get(name):
@@ -100,9 +102,9 @@ def complaints(root):
     rows = {name for name, _ in named}
     exported = {f.name for f in found if f.exported}
     for name in sorted(set(promises) - rows):
-        yield f"{name}: in promises.txt, and not in README.md's table"
+        yield f"{name}: in promises.txt, and not in README.md's tables"
     for name in sorted(exported - rows):
-        yield f"{name}: exported for C, and not in README.md's table"
+        yield f"{name}: exported for C, and not in README.md's tables"
     for name in sorted(exported ^ declared(root)):
         yield f"{name}: exported for C or declared in include/permits.h, and not both"
 
@@ -126,7 +128,7 @@ def wrong(root):
         yield f"{name}: a public call without `ensures`", f.path, text[: f.places[0]] + text[f.places[-1] :]
         yield f"{name}: another promise", f.path, text[: f.places[0]] + text[f.places[0] :].replace("⌜ ", "⌜ ⊥ → ", 1)
         yield f"{name}: another promise", f.path, text.replace("ghost use Rattle·", "ghost use Rattle.other.")
-        yield f"{name}: README.md's table", f.path, re.sub(rf"\bfn {name}\b", f"fn {name}_other", text, count=1)
+        yield f"{name}: README.md's tables", f.path, re.sub(rf"\bfn {name}\b", f"fn {name}_other", text, count=1)
     for name in {f.name for f in found if f.exported}:
         for path in root / "README.md", root / "include/permits.h":
             yield f"{name}: exported for C", path, path.read_text().replace(f"{name}(", f"{name}_other(")

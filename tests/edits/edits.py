@@ -1,0 +1,123 @@
+"""Reads off the logs of the last run where the check refused each must-fail edit, and holds docs/WRONG-PROGRAMS.md to it.
+
+    edits.py table ROOT     the document's table; a fact that the document names is kept where the log still has it
+    edits.py check ROOT     that the document has each edit once, with its own first line and a fact that its log has
+    edits.py itself ROOT    that the check fails where a row is left out, doubled or names another fact
+"""
+import re
+import sys
+from pathlib import Path
+
+DOCUMENT = "docs/WRONG-PROGRAMS.md"
+
+# An error in a law or in a function's proof: file, line, law, message.
+ERROR = re.compile(r"^(\S+):(\d+):\d+: error: `([^`]+)`: (.*)$", re.M)
+# What the checker's own walk of a function found open: file and line of the function.
+OPEN = re.compile(r"^note: (\S+\.rt):(\d+):\d+: it is not proved that ", re.M)
+ROW = re.compile(r"^\| (\w+/\w+) \| (.*) \| (.*) \|$", re.M)
+
+
+def function_at(source, line):
+    """The function whose text has this line of a source file."""
+    before = "\n".join(source.read_text().splitlines()[:line])
+    return re.findall(r"\bfn (\w+)", before + " " + source.read_text().splitlines()[line])[-1]
+
+
+def fact(folder, path, law):
+    """The law, or the function whose proof it is a step of."""
+    place = Path(path).relative_to(folder)
+    if place.name == "Proof.antt":
+        return f"the contract of `{place.parent.name}`"
+    return f"`{law}`, {place.with_suffix('')}"
+
+
+def facts(folder):
+    """What the log of an edit says does not hold, in the log's order. A law that only builds on another refused one is passed over."""
+    log = (folder / ".log").read_text()
+    # a log names its files by the path of the run that made it
+    folder_then = re.search(r"\S*/target/must-fail/\w+/\w+(?=/(?:src|specs|proofs)/)", log)[0]
+    found = [fact(folder_then, path, law) for path, _, law, message in ERROR.findall(log) if "was not admitted" not in message]
+    for path, line in OPEN.findall(log):
+        source = folder / Path(path).relative_to(folder_then)
+        found.append(f"the contract of `{function_at(source, int(line))}`")
+    return list(dict.fromkeys(found))
+
+
+def edits(root):
+    """Each edit's name, what its first line says it gets wrong, and the folder of its log."""
+    for path in sorted(root.glob("crates/*/must-fail/*.edit")):
+        crate = path.parts[-3]
+        yield f"{crate}/{path.stem}", path.read_text().splitlines()[0].removeprefix("# "), root / "target/must-fail" / crate / path.stem
+
+
+def rows(root):
+    """The rows of the document: the edit, what it gets wrong, and where it is refused."""
+    return ROW.findall((root / DOCUMENT).read_text())
+
+
+def table(root):
+    """The rows as the logs have them."""
+    named = {name: said for name, _, said in rows(root)}
+    for name, wrong, folder in edits(root):
+        found = facts(folder)
+        yield name, wrong, named[name] if named.get(name) in found else found[0]
+
+
+def complaints(found, stated):
+    """What is wrong with the rows, given each edit's name, first line and facts."""
+    names = [name for name, _, _ in stated]
+    for name in sorted(set(names) - {name for name, _, _ in found}):
+        yield f"{name}: in the document, and no edit"
+    for name, wrong, its_facts in found:
+        if names.count(name) != 1:
+            yield f"{name}: {names.count(name)} rows in the document"
+            continue
+        row = stated[names.index(name)]
+        if row[1] != wrong:
+            yield f"{name}: the document says of it what its first line does not"
+        if row[2] not in its_facts:
+            yield f"{name}: the document has it refused at {row[2]}, and its log at {its_facts}"
+
+
+def logged(root):
+    return [(name, wrong, facts(folder)) for name, wrong, folder in edits(root)]
+
+
+def check(root):
+    """Whether the document says what the last run found."""
+    missing = [name for name, _, folder in edits(root) if not (folder / ".log").exists()]
+    for name in missing:
+        print(f"{name}: not tried yet; `rt must-fail {name.split('/')[0]}` tries it")
+    found = [] if missing else logged(root)
+    wrongs = list(complaints(found, rows(root)))
+    for complaint in wrongs:
+        print(complaint)
+    print(f"{len(found)} edits")
+    return bool(found) and not wrongs
+
+
+def itself(root):
+    """Whether each wrong document is found, made from the logs by changing one row."""
+    found = logged(root)
+    right = [(name, wrong, its_facts[0]) for name, wrong, its_facts in found]
+    passed = failed = 0
+    for k, (name, wrong, said) in enumerate(right):
+        for row in [], [(name, wrong, said)] * 2, [(name, wrong + ".", said)], [(name, wrong, said + ".")], [(name + "_other", wrong, said)]:
+            if any(complaint.startswith(name) for complaint in complaints(found, right[:k] + row + right[k + 1 :])):
+                passed += 1
+            else:
+                failed += 1
+                print(f"not found: {row} for {name}")
+    failed += bool(list(complaints(found, right)))
+    print(f"{passed} passed, {failed} failed")
+    return passed > 0 and failed == 0
+
+
+def show(root):
+    for row in table(root):
+        print("| " + " | ".join(row) + " |")
+    return True
+
+
+if __name__ == "__main__":
+    sys.exit(0 if {"table": show, "check": check, "itself": itself}[sys.argv[1]](Path(sys.argv[2])) else 1)
