@@ -1,7 +1,7 @@
 """Reads off the logs of the last run where the check refused each must-fail edit, and holds docs/WRONG-PROGRAMS.md to it.
 
     edits.py table ROOT     the document's table; a fact that the document names is kept where the log still has it
-    edits.py check ROOT     that the document has each edit once, with its own first line and a fact that its log has
+    edits.py check ROOT     that the document has each edit once, with what it changes, its own first line and a fact that its log has
     edits.py itself ROOT    that the check fails where a row is left out, doubled or names another fact
 """
 import re
@@ -14,7 +14,8 @@ DOCUMENT = "docs/WRONG-PROGRAMS.md"
 ERROR = re.compile(r"^(\S+):(\d+):\d+: error: `([^`]+)`: (.*)$", re.M)
 # What the checker's own walk of a function found open: file and line of the function.
 OPEN = re.compile(r"^note: (\S+\.rt):(\d+):\d+: it is not proved that ", re.M)
-ROW = re.compile(r"^\| (\w+/\w+) \| (.*) \| (.*) \|$", re.M)
+PAIR = re.compile(r"^file: (\S+)$|^old: (.*)$", re.M)
+ROW = re.compile(r"^\| (\w+/\w+) \| (.*) \| (.*) \| (.*) \|$", re.M)
 
 
 def function_at(source, line):
@@ -43,49 +44,70 @@ def facts(folder):
     return list(dict.fromkeys(found))
 
 
+def kind_of(source, old):
+    """What an edit changes in a file of a crate, given the text that it takes out."""
+    folder = source.parts[source.parts.index("crates") + 2]
+    if folder != "src":
+        return {"specs": "definition", "proofs": "proof"}[folder]
+    # code never speaks of what a lent argument holds `now`, nor of the names that a ghost use brings
+    return "contract" if "now (" in old or old.startswith("ghost use") else "code"
+
+
+def changes(path):
+    """What the edit changes in its crate, each kind once."""
+    kinds, source = [], None
+    for file, old in PAIR.findall(path.read_text()):
+        if file:
+            source = path.parent.parent / file
+        else:
+            kinds.append(kind_of(source, old))
+    return " and ".join(kind for kind in ("definition", "contract", "code", "proof") if kind in kinds)
+
+
 def edits(root):
-    """Each edit's name, what its first line says it gets wrong, and the folder of its log."""
+    """Each edit's name, what it changes, what its first line says it gets wrong, and the folder of its log."""
     for path in sorted(root.glob("crates/*/must-fail/*.edit")):
         crate = path.parts[-3]
-        yield f"{crate}/{path.stem}", path.read_text().splitlines()[0].removeprefix("# "), root / "target/must-fail" / crate / path.stem
+        wrong = path.read_text().splitlines()[0].removeprefix("# ")
+        yield f"{crate}/{path.stem}", changes(path), wrong, root / "target/must-fail" / crate / path.stem
 
 
 def rows(root):
-    """The rows of the document: the edit, what it gets wrong, and where it is refused."""
+    """The rows of the document: the edit, what it changes, what it gets wrong, and where it is refused."""
     return ROW.findall((root / DOCUMENT).read_text())
 
 
 def table(root):
     """The rows as the logs have them."""
-    named = {name: said for name, _, said in rows(root)}
-    for name, wrong, folder in edits(root):
+    named = {row[0]: row[3] for row in rows(root)}
+    for name, changed, wrong, folder in edits(root):
         found = facts(folder)
-        yield name, wrong, named[name] if named.get(name) in found else found[0]
+        yield name, changed, wrong, named[name] if named.get(name) in found else found[0]
 
 
 def complaints(found, stated):
-    """What is wrong with the rows, given each edit's name, first line and facts."""
-    names = [name for name, _, _ in stated]
-    for name in sorted(set(names) - {name for name, _, _ in found}):
+    """What is wrong with the rows, given each edit's name, what it changes, its first line and its facts."""
+    names = [row[0] for row in stated]
+    for name in sorted(set(names) - {edit[0] for edit in found}):
         yield f"{name}: in the document, and no edit"
-    for name, wrong, its_facts in found:
+    for name, changed, wrong, its_facts in found:
         if names.count(name) != 1:
             yield f"{name}: {names.count(name)} rows in the document"
             continue
         row = stated[names.index(name)]
-        if row[1] != wrong:
-            yield f"{name}: the document says of it what its first line does not"
-        if row[2] not in its_facts:
-            yield f"{name}: the document has it refused at {row[2]}, and its log at {its_facts}"
+        if row[1:3] != (changed, wrong):
+            yield f"{name}: the document says {row[1:3]} of it, and the edit {(changed, wrong)}"
+        if row[3] not in its_facts:
+            yield f"{name}: the document has it refused at {row[3]}, and its log at {its_facts}"
 
 
 def logged(root):
-    return [(name, wrong, facts(folder)) for name, wrong, folder in edits(root)]
+    return [(name, changed, wrong, facts(folder)) for name, changed, wrong, folder in edits(root)]
 
 
 def check(root):
     """Whether the document says what the last run found."""
-    missing = [name for name, _, folder in edits(root) if not (folder / ".log").exists()]
+    missing = [edit[0] for edit in edits(root) if not (edit[3] / ".log").exists()]
     for name in missing:
         print(f"{name}: not tried yet; `rt must-fail {name.split('/')[0]}` tries it")
     found = [] if missing else logged(root)
@@ -99,15 +121,16 @@ def check(root):
 def itself(root):
     """Whether each wrong document is found, made from the logs by changing one row."""
     found = logged(root)
-    right = [(name, wrong, its_facts[0]) for name, wrong, its_facts in found]
+    right = [(*edit[:3], edit[3][0]) for edit in found]
     passed = failed = 0
-    for k, (name, wrong, said) in enumerate(right):
-        for row in [], [(name, wrong, said)] * 2, [(name, wrong + ".", said)], [(name, wrong, said + ".")], [(name + "_other", wrong, said)]:
-            if any(complaint.startswith(name) for complaint in complaints(found, right[:k] + row + right[k + 1 :])):
+    for k, row in enumerate(right):
+        others = [(*row[:i], row[i] + ".", *row[i + 1 :]) for i in range(4)]
+        for wrong in [], [row] * 2, *([other] for other in others):
+            if any(complaint.startswith(row[0]) for complaint in complaints(found, right[:k] + wrong + right[k + 1 :])):
                 passed += 1
             else:
                 failed += 1
-                print(f"not found: {row} for {name}")
+                print(f"not found: {wrong} for {row}")
     failed += bool(list(complaints(found, right)))
     print(f"{passed} passed, {failed} failed")
     return passed > 0 and failed == 0
