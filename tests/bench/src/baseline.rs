@@ -19,7 +19,7 @@ mod program;
 
 pub use calls::call;
 pub use lists::{batch, queue};
-pub use opening::open;
+pub use opening::{open, section};
 pub use program::{permits, LONGEST_INPUT, LONGEST_OUTPUT};
 
 use permit_monitor::Plant;

@@ -1,23 +1,15 @@
-//! What is measured: a function of each side on the same input.
+//! The measured calls: a function of each side on the same input.
 
 use std::hint::black_box;
 
 use permit_monitor::monitor::NONE;
-use permit_monitor::{queue, Record};
+use permit_monitor::Record;
 
-use crate::inputs::{
-    list, maximum_plant, paper_plant, wild_list, GATE, MIXED, SET, START, START_STOP,
-};
+use crate::inputs::{list, GATE, MIXED, SET, START};
 use crate::{baseline, rattle};
 
-/// Request records.
-type List = Vec<[u8; 5]>;
-
-/// Requests in a measured list.
-const REQUESTS: usize = 10_000;
-
-/// Requests in a long one, in which what a list does once no longer shows.
-const LONG: usize = 60_000;
+/// What makes request records for a plant file.
+pub type Requests = fn(&[u8]) -> Vec<[u8; 5]>;
 
 /// One measured call.
 pub struct Case {
@@ -35,62 +27,7 @@ pub struct Sides {
     pub baseline: Box<dyn FnMut()>,
 }
 
-/// A row of the table: one case, or the difference of two for each request.
-pub enum Row {
-    Whole(Case),
-    PerRequest { name: String, count: usize, full: Case, empty: Case },
-}
-
-/// Every row, for both plants.
-pub fn rows() -> Vec<Row> {
-    let mut rows = Vec::new();
-    for (name, file) in [("01's plant", paper_plant()), ("maximum plant", maximum_plant())] {
-        rows.extend(plant_rows(name, &file));
-    }
-    rows
-}
-
-fn plant_rows(plant: &str, file: &[u8]) -> Vec<Row> {
-    let lists: [(&str, fn(&[u8]) -> List); 3] = [
-        ("mixed", |file| list(file, &MIXED, REQUESTS)),
-        ("start and stop", |file| list(file, &START_STOP, REQUESTS)),
-        ("wild", |_| wild_list(REQUESTS)),
-    ];
-    let mut rows = vec![Row::Whole(opening(plant, file))];
-    for (name, requests) in lists {
-        rows.push(Row::PerRequest {
-            name: format!("{plant}, batch, a request, {name}"),
-            count: REQUESTS,
-            full: batch(plant, name, file, requests),
-            empty: batch(plant, "empty", file, |_| Vec::new()),
-        });
-    }
-    rows.push(later_requests(plant, file));
-    rows.push(Row::Whole(batch(plant, "empty", file, |_| Vec::new())));
-    for (name, requests) in lists {
-        rows.push(Row::PerRequest {
-            name: format!("{plant}, queue, a request, {name}"),
-            count: REQUESTS,
-            full: queue_case(plant, name, file, requests),
-            empty: queue_case(plant, "empty", file, |_| Vec::new()),
-        });
-    }
-    rows.extend(console_cases(plant, file).into_iter().map(Row::Whole));
-    rows
-}
-
-/// A request behind the first of a long list: every choice that it needs was
-/// made before.
-fn later_requests(plant: &str, file: &[u8]) -> Row {
-    Row::PerRequest {
-        name: format!("{plant}, batch, a later request, mixed"),
-        count: LONG - REQUESTS,
-        full: batch(plant, "mixed, long", file, |file| list(file, &MIXED, LONG)),
-        empty: batch(plant, "mixed", file, |file| list(file, &MIXED, REQUESTS)),
-    }
-}
-
-fn opening(plant: &str, file: &[u8]) -> Case {
+pub fn opening(plant: &str, file: &[u8]) -> Case {
     let file = file.to_vec();
     let sides = move || {
         let (file, other_file) = (file.clone(), file.clone());
@@ -111,7 +48,29 @@ fn opening(plant: &str, file: &[u8]) -> Case {
     }
 }
 
-fn batch(plant: &str, name: &str, file: &[u8], requests: fn(&[u8]) -> List) -> Case {
+/// The section of the tanks; the others take the same work.
+pub fn section(plant: &str, file: &[u8]) -> Case {
+    const TANKS: usize = 3;
+    let file = file.to_vec();
+    let sides = move || {
+        let (file, other_file) = (file.clone(), file.clone());
+        Sides {
+            rattle: Box::new(move || {
+                black_box(rattle::section(black_box(&file), TANKS));
+            }),
+            baseline: Box::new(move || {
+                black_box(baseline::section(black_box(&other_file), TANKS));
+            }),
+        }
+    };
+    Case {
+        name: format!("{plant}, section"),
+        functions: ["permits_section", "baseline_section"],
+        sides: Box::new(sides),
+    }
+}
+
+pub fn batch(plant: &str, name: &str, file: &[u8], requests: Requests) -> Case {
     let file = file.to_vec();
     let sides = move || {
         let (file, other_file) = (file.clone(), file.clone());
@@ -136,7 +95,7 @@ fn batch(plant: &str, name: &str, file: &[u8], requests: fn(&[u8]) -> List) -> C
     }
 }
 
-fn queue_case(plant: &str, name: &str, file: &[u8], requests: fn(&[u8]) -> List) -> Case {
+pub fn queue(plant: &str, name: &str, file: &[u8], requests: Requests) -> Case {
     let file = file.to_vec();
     let sides = move || {
         let requests = requests(&file);
@@ -164,10 +123,10 @@ fn queue_case(plant: &str, name: &str, file: &[u8], requests: fn(&[u8]) -> List)
 
 /// A set, a start and a gate, each accepted, on a record on which a list was
 /// made.
-fn console_cases(plant: &str, file: &[u8]) -> Vec<Case> {
+pub fn console_cases(plant: &str, file: &[u8]) -> [Case; 3] {
     let mut record = permit_monitor::open(file).1;
     let past = list(file, &MIXED, 400);
-    queue(&mut record, &past, &mut vec![0; past.len()]);
+    permit_monitor::queue(&mut record, &past, &mut vec![0; past.len()]);
     let (skid, tank, right) = record.held()[0];
     let task = record.running[usize::from(skid)];
     let requirement = record.plant.requirement[usize::from(record.plant.group[usize::from(tank)])];
@@ -176,7 +135,7 @@ fn console_cases(plant: &str, file: &[u8]) -> Vec<Case> {
     let set = [SET, skid, task, requirement, 0];
     let start = [START, skid, task, 0, 0];
     let gate = [GATE, skid, tank, right, 0];
-    vec![
+    [
         console_case(format!("{plant}, console, set"), record, set, |_| ()),
         console_case(format!("{plant}, console, start"), idle, start, move |record| {
             make_idle(record, skid)

@@ -10,10 +10,8 @@ pub struct Pair {
 }
 
 impl Pair {
-    /// A row of a table.
-    pub fn print(&self, name: &str) {
-        let ratio = self.rattle / self.baseline;
-        println!("{name:46} {:9.1} {:9.1} {ratio:6.2}", self.rattle, self.baseline);
+    pub fn ratio(&self) -> f64 {
+        self.rattle / self.baseline
     }
 
     /// What one of `requests` takes, where `empty` is the cost of none.

@@ -2,7 +2,6 @@
 //! busy the machine is.
 
 use std::fs::File;
-use std::io;
 use std::path::Path;
 use std::process::{Command, Stdio};
 
@@ -18,9 +17,12 @@ pub fn instructions_of(program: &Path, input: &Path) -> Option<f64> {
     collected(callgrind().arg(program).stdin(input))
 }
 
+/// With no environment, since its size is in the count: the loader goes over it,
+/// and it moves the stack, on which a copy then takes other steps. Without a PATH
+/// valgrind is sought in /bin and /usr/bin.
 fn callgrind() -> Command {
     let mut command = Command::new("valgrind");
-    command.args(["--tool=callgrind", "--callgrind-out-file=/dev/null"]);
+    command.env_clear().args(["--tool=callgrind", "--callgrind-out-file=/dev/null"]);
     command
 }
 
@@ -29,10 +31,4 @@ fn collected(command: &mut Command) -> Option<f64> {
     let output = command.stdout(Stdio::null()).output().ok()?;
     let said = String::from_utf8_lossy(&output.stderr);
     said.split("Collected :").nth(1)?.split_whitespace().next()?.parse().ok()
-}
-
-/// Whether valgrind can be run.
-pub fn can_count() -> bool {
-    let tried: io::Result<_> = Command::new("valgrind").arg("--version").output();
-    tried.is_ok()
 }

@@ -6,8 +6,10 @@ use std::path::{Path, PathBuf};
 use std::process::{Command, Stdio};
 
 use crate::clock::{times, Pair};
-use crate::count::{can_count, instructions_of};
+use crate::count::instructions_of;
 use crate::inputs::{list, maximum_plant, paper_plant, MIXED, PAPER_SESSION};
+use crate::measured::Measured;
+use crate::rows::{Label, NO_AIM, PLANTS, PROGRAM_AIM};
 
 /// The two programs and a folder for their inputs.
 pub struct Programs {
@@ -20,49 +22,36 @@ pub struct Programs {
 const LONG: usize = 65_000;
 
 impl Programs {
-    /// The table. Both must print the same.
-    pub fn print(&self) -> io::Result<()> {
-        println!(
-            "{:46} {:>9} {:>9} {:>6}",
-            "permits, a whole process", "Rattle", "baseline", "ratio"
-        );
-        for (name, bytes) in inputs() {
-            let input = self.folder.join("input");
-            fs::write(&input, bytes)?;
-            let printed = output(&self.rattle, &input)?;
-            assert!(printed == output(&self.baseline, &input)?, "{name}: they differ");
-            self.print_counts(name, &input);
-            self.print_times(name, &input);
-        }
-        Ok(())
+    /// The rows, each measured when it is asked for.
+    pub fn measured(&self) -> impl Iterator<Item = Measured> + '_ {
+        inputs().into_iter().map(|(label, bytes)| self.measure(label, &bytes))
     }
 
-    fn print_counts(&self, name: &str, input: &Path) {
-        let of = |program: &Path| instructions_of(program, input).unwrap_or(f64::NAN);
-        if can_count() {
-            let pair = Pair { rattle: of(&self.rattle), baseline: of(&self.baseline) };
-            pair.print(&format!("{name}, instructions"));
+    /// Both must print the same.
+    fn measure(&self, label: Label, bytes: &[u8]) -> Measured {
+        let input = self.folder.join("input");
+        fs::write(&input, bytes).expect("the input is written");
+        let run = |program: &Path| output(program, &input).expect("the program runs");
+        assert!(run(&self.rattle) == run(&self.baseline), "{}: they differ", label.name);
+        let count = |program: &Path| instructions_of(program, &input).expect("valgrind counts");
+        Measured {
+            label,
+            nanoseconds: times(&mut || drop(run(&self.rattle)), &mut || drop(run(&self.baseline))),
+            instructions: Pair { rattle: count(&self.rattle), baseline: count(&self.baseline) },
         }
-    }
-
-    fn print_times(&self, name: &str, input: &Path) {
-        let run = |program: &Path| {
-            output(program, input).expect("it ran before");
-        };
-        let pair = times(&mut || run(&self.rattle), &mut || run(&self.baseline));
-        pair.print(&format!("{name}, nanoseconds"));
     }
 }
 
 /// No input shows what a process costs that has nothing to do.
-fn inputs() -> [(&'static str, Vec<u8>); 3] {
+fn inputs() -> [(Label, Vec<u8>); 3] {
+    let label = |plant, name: &str, aim| Label { plant, name: format!("permits, {name}"), aim };
     let session = [paper_plant(), PAPER_SESSION.concat()].concat();
     let plant = maximum_plant();
     let requests = list(&plant, &MIXED, (LONG - plant.len()) / 5);
     [
-        ("no input", Vec::new()),
-        ("01's session", session),
-        ("65,000 bytes", [plant, requests.concat()].concat()),
+        (label("no plant", "no input", NO_AIM), Vec::new()),
+        (label(PLANTS[0], "01's session", PROGRAM_AIM), session),
+        (label(PLANTS[1], "65,000 bytes", PROGRAM_AIM), [plant, requests.concat()].concat()),
     ]
 }
 

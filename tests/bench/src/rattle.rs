@@ -11,6 +11,13 @@ mod archives {
         pub bytes: [u8; 5],
     }
 
+    /// A part of the caller's bytes.
+    #[repr(C)]
+    pub struct Place {
+        pub begin: usize,
+        pub length: usize,
+    }
+
     #[link(name = "panel", kind = "static")]
     extern "C" {
         pub fn permits_batch(
@@ -21,6 +28,7 @@ mod archives {
             out: *mut u8,
             out_length: usize,
         ) -> u8;
+        pub fn permits_section(file: *const u8, length: usize, kind: usize) -> Place;
     }
 
     #[link(name = "console", kind = "static")]
@@ -48,6 +56,12 @@ pub fn batch(plant: &[u8], requests: &[u8], out: &mut [u8]) -> u8 {
             out.len(),
         )
     }
+}
+
+/// Where the section begins, and how many bytes it has.
+pub fn section(file: &[u8], kind: usize) -> (usize, usize) {
+    let place = unsafe { archives::permits_section(file.as_ptr(), file.len(), kind) };
+    (place.begin, place.length)
 }
 
 pub fn open(record: &mut Record, file: &[u8]) -> u8 {

@@ -6,7 +6,7 @@ use permit_monitor::gen::{
     accepted_file, any_plant_file, batch_case, calls, program_input, random_record, wild_calls,
     Rng, SIZES,
 };
-use permit_monitor::{batch, call, open, permits, queue, Record};
+use permit_monitor::{batch, call, open, permits, queue, section, Record};
 
 fn open_baseline(file: &[u8]) -> (u8, Record) {
     let mut record = random_record(&mut Rng::new(7));
@@ -20,6 +20,21 @@ fn opening() {
     for _ in 0..60_000 {
         let file = any_plant_file(&mut rng);
         assert_eq!(open_baseline(&file), open(&file));
+    }
+}
+
+/// The second implementation gives the part itself: the same place, where it has
+/// a byte.
+#[test]
+fn sections() {
+    let mut rng = Rng::new(8);
+    for case in 0..60_000 {
+        let file = any_plant_file(&mut rng);
+        let kind = case % 7;
+        let (begin, length) = baseline::section(&file, kind);
+        let part = section(&file, kind);
+        assert_eq!(length, part.len());
+        assert!(length == 0 || std::ptr::eq(&file[begin], &part[0]));
     }
 }
 

@@ -29,6 +29,15 @@ fn batches() {
 }
 
 #[test]
+fn sections() {
+    for plant in plants() {
+        for kind in 0..7 {
+            assert_eq!(rattle::section(&plant, kind), baseline::section(&plant, kind));
+        }
+    }
+}
+
+#[test]
 fn queues_and_calls() {
     for plant in plants() {
         for list in lists(&plant) {

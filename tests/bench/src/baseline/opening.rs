@@ -51,6 +51,17 @@ pub fn open_plant(plant: &mut Plant, file: &[u8], tables: &mut Tables) -> u8 {
     items_number(plant, tables)
 }
 
+/// Where a section begins and how many bytes it has; 0 and 0 where one of 1 to 6
+/// fails or there is no such section.
+#[inline(never)]
+#[export_name = "baseline_section"]
+pub fn section(file: &[u8], kind: usize) -> (usize, usize) {
+    match section_begins(file) {
+        Ok(begins) if kind < 6 => (begins[kind], usize::from(file[1 + kind]) * WIDTHS[kind]),
+        _ => (0, 0),
+    }
+}
+
 /// Checks 1 to 6, and where the sections begin.
 #[inline(always)]
 fn section_begins(file: &[u8]) -> Result<[usize; 6], u8> {
