@@ -1,57 +1,89 @@
-//! Memory that is lent to the archives, between two rows of guard bytes.
+//! Memory that is lent to the archives: one end of it stands directly at memory
+//! without access, beside the other is a row of guard bytes.
 
 use crate::difference::{same, Difference};
+use crate::pages;
 
-/// Bytes on either side; even, so that the content begins at an even address
-/// where the whole does.
+/// The end of the content at which memory without access begins. A read or
+/// write past that end is a fault; whatever is lent is lent at both.
+#[derive(Clone, Copy, PartialEq, Eq, Debug)]
+pub enum Edge {
+    Start,
+    End,
+}
+
+/// Bytes beside the other end.
 const GUARD: usize = 64;
 
 pub struct Guarded {
     name: &'static str,
-    bytes: Vec<u8>,
+    room: &'static mut [u8],
+    edge: Edge,
     begin: usize,
     length: usize,
 }
 
 impl Guarded {
-    /// A copy of the content. It begins at an even address, as a record must,
-    /// which has two-byte numbers.
-    pub fn holding(name: &'static str, content: &[u8]) -> Guarded {
+    /// A copy of the content. A record, which has two-byte numbers and an even
+    /// length, begins at an even address at either edge.
+    pub fn holding(name: &'static str, content: &[u8], edge: Edge) -> Guarded {
         let length = content.len();
-        let mut bytes = vec![0; length + 2 * GUARD + 1];
-        let begin = GUARD + bytes.as_ptr() as usize % 2;
-        for (i, byte) in bytes.iter_mut().enumerate() {
+        let room = pages::take(length + GUARD);
+        let begin = match edge {
+            Edge::Start => 0,
+            Edge::End => room.len() - length,
+        };
+        room[begin..begin + length].copy_from_slice(content);
+        let guarded = Guarded { name, room, edge, begin, length };
+        let guard = guarded.guard();
+        for (i, byte) in guarded.room[guard..guard + GUARD].iter_mut().enumerate() {
             *byte = guard_byte(i);
         }
-        bytes[begin..begin + length].copy_from_slice(content);
-        Guarded { name, bytes, begin, length }
+        guarded
+    }
+
+    /// Where the guard bytes begin.
+    fn guard(&self) -> usize {
+        match self.edge {
+            Edge::Start => self.length,
+            Edge::End => self.begin - GUARD,
+        }
+    }
+
+    pub fn edge(&self) -> Edge {
+        self.edge
     }
 
     /// Where the content begins, for a callee that may write it.
     pub fn pointer(&mut self) -> *mut u8 {
-        self.bytes[self.begin..].as_mut_ptr()
+        self.room[self.begin..].as_mut_ptr()
     }
 
     pub fn content(&self) -> &[u8] {
-        &self.bytes[self.begin..self.begin + self.length]
+        &self.room[self.begin..self.begin + self.length]
     }
 
-    /// No byte beside the content was written.
+    /// No guard byte was written.
     pub fn guards_hold(&self) -> Result<(), Difference> {
-        let end = self.begin + self.length;
-        let beside = (0..self.begin).chain(end..self.bytes.len());
-        for at in beside {
-            let what =
-                || format!("byte {} counted from the {}", at as i64 - self.begin as i64, self.name);
-            same(what, &guard_byte(at), &self.bytes[at])?;
+        let guard = self.guard();
+        for (i, byte) in self.room[guard..guard + GUARD].iter().enumerate() {
+            let from_content = (guard + i) as i64 - self.begin as i64;
+            let what = || format!("byte {from_content} counted from the {}", self.name);
+            same(what, &guard_byte(i), byte)?;
         }
         Ok(())
     }
 
-    /// Neither the content nor a byte beside it was written.
+    /// Neither the content nor a guard byte was written.
     pub fn untouched(&self, content: &[u8]) -> Result<(), Difference> {
         self.guards_hold()?;
         same(|| format!("the {} after the call", self.name), content, self.content())
+    }
+}
+
+impl Drop for Guarded {
+    fn drop(&mut self) {
+        pages::give_back(std::mem::take(&mut self.room));
     }
 }
 

@@ -15,6 +15,7 @@ mod group;
 mod groups;
 mod guarded;
 mod input;
+mod pages;
 mod program;
 mod seeded;
 mod session;
