@@ -4,6 +4,7 @@
 use crate::comparisons::Comparison;
 use crate::counts::Counts;
 use crate::difference::Difference;
+use crate::fault::{self, Case};
 use crate::input::Input;
 use crate::shrink::shortest;
 use permit_monitor::gen::Rng;
@@ -82,6 +83,7 @@ impl Group {
     fn run_share(&self, numbers: impl Iterator<Item = u64>) -> Found {
         let mut found = Found::default();
         for number in numbers {
+            fault::begin(self.case(number));
             match self.inputs_of(number) {
                 Ok(inputs) => {
                     inputs.into_iter().for_each(|input| self.take(number, input, &mut found))
@@ -111,6 +113,14 @@ impl Group {
         without_panic(|| (self.compare)(input, counts))
     }
 
+    fn case(&self, number: u64) -> Case {
+        let source = match self.inputs {
+            Inputs::Seeded { .. } => "seed",
+            Inputs::Every { .. } => "number",
+        };
+        Case { group: self.name, source, number }
+    }
+
     /// The line of the group, and what differs where something does.
     pub fn report(&self, numbers: Range<u64>, found: &Found) -> String {
         let source = match self.inputs {
@@ -130,10 +140,9 @@ impl Group {
 
     /// The first difference, and the shortest input that shows one.
     fn explain(&self, first: &First) -> String {
-        let source = match self.inputs {
-            Inputs::Seeded { .. } => "seed",
-            Inputs::Every { .. } => "number",
-        };
+        let case = self.case(first.number);
+        fault::begin(case);
+        let source = case.source;
         // a shorter input that panics shows another fault than one that differs
         let panics = |difference: &Difference| difference.got == PANIC;
         let differs = |input: &Input| {

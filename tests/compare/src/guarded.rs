@@ -91,3 +91,35 @@ impl Drop for Guarded {
 fn guard_byte(at: usize) -> u8 {
     (at * 37 + 165) as u8
 }
+
+#[cfg(test)]
+mod tests {
+    use super::*;
+
+    const CONTENT: [u8; 4] = [1, 2, 3, 4];
+
+    /// Whether everything holds after a byte is written, counted from the start
+    /// of the content.
+    fn holds_after_write(edge: Edge, at: isize) -> [bool; 2] {
+        let mut guarded = Guarded::holding("buffer", &CONTENT, edge);
+        // SAFETY: the content and the guard bytes are in the room.
+        unsafe { *guarded.pointer().wrapping_offset(at) ^= 255 };
+        [guarded.guards_hold().is_ok(), guarded.untouched(&CONTENT).is_ok()]
+    }
+
+    #[test]
+    fn a_write_to_the_content_shows_only_where_it_must_stay() {
+        for edge in [Edge::Start, Edge::End] {
+            assert_eq!(holds_after_write(edge, 0), [true, false]);
+            assert_eq!(holds_after_write(edge, 3), [true, false]);
+        }
+    }
+
+    #[test]
+    fn a_write_beside_the_content_shows() {
+        assert_eq!(holds_after_write(Edge::Start, 4), [false, false]);
+        assert_eq!(holds_after_write(Edge::Start, 67), [false, false]);
+        assert_eq!(holds_after_write(Edge::End, -1), [false, false]);
+        assert_eq!(holds_after_write(Edge::End, -64), [false, false]);
+    }
+}

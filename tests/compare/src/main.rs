@@ -3,6 +3,7 @@
 //!     compare                       the gate: every group, fixed seeds
 //!     compare SEED COUNT            the seeded groups, COUNT seeds from SEED on
 //!     compare SEED COUNT GROUP      the groups whose name begins so
+//!     compare read EDGE AT          one read, for the test that a read outside is noticed
 //!
 //! It is run in the repository's folder. The last line is 'N passed, M failed'.
 
@@ -11,11 +12,13 @@ mod comparisons;
 mod counts;
 mod difference;
 mod every;
+mod fault;
 mod group;
 mod groups;
 mod guarded;
 mod input;
 mod pages;
+mod probe;
 mod program;
 mod seeded;
 mod session;
@@ -47,7 +50,14 @@ struct Tally {
 }
 
 fn main() -> ExitCode {
+    fault::tell();
     let arguments: Vec<String> = std::env::args().skip(1).collect();
+    if let [command, edge, at] = &arguments[..] {
+        if let ("read", Some(edge), Ok(at)) = (command.as_str(), probe::edge(edge), at.parse()) {
+            probe::read(edge, at);
+            return ExitCode::SUCCESS;
+        }
+    }
     let Some(wanted) = wanted(&arguments) else {
         println!(
             "usage: compare [SEED COUNT [GROUP]], SEED and COUNT being numbers and COUNT over 0"
