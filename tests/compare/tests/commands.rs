@@ -1,6 +1,7 @@
 //! The program compare by its command line: a read outside a lent buffer ends
-//! it.
+//! it, and an input is compared again from a file.
 
+use std::fs;
 use std::path::Path;
 use std::process::Command;
 
@@ -31,5 +32,31 @@ fn a_read_inside_is_none_of_that() {
     for edge in ["start", "end"] {
         assert_eq!(compare(&["read", edge, "0"]), (Some(0), "1\n".to_string()));
         assert_eq!(compare(&["read", edge, "7"]), (Some(0), "8\n".to_string()));
+    }
+}
+
+/// A file with this text, compared again.
+fn again(name: &str, text: &str) -> (Option<i32>, String) {
+    let path = Path::new(env!("CARGO_TARGET_TMPDIR")).join(name);
+    fs::write(&path, text).expect("the file can be written");
+    compare(&["again", path.to_str().expect("the path is text")])
+}
+
+const EMPTY: &str = "number: 17\nplant:\nrecord:\nrequests: 0100000000\nbuffer: 577\n";
+
+#[test]
+fn an_input_in_a_file_is_compared() {
+    let (status, printed) = again("same.txt", &format!("group: batch\n{EMPTY}"));
+    assert_eq!(status, Some(0), "{printed}");
+    assert!(printed.starts_with("passed: batch: ") && printed.ends_with("\n1 passed, 0 failed\n"));
+}
+
+#[test]
+fn a_file_that_says_no_group_passes_nothing() {
+    for text in [EMPTY.to_string(), format!("group: no such group\n{EMPTY}")] {
+        let (status, printed) = again("no-group.txt", &text);
+        assert_eq!(status, Some(1), "{printed}");
+        assert!(printed.starts_with("FAILED: nothing was compared: "), "{printed}");
+        assert!(printed.ends_with("\n0 passed, 1 failed\n"), "{printed}");
     }
 }
