@@ -2,6 +2,7 @@
 //!
 //! The file has a line for each part of the input, bytes in base sixteen.
 
+use crate::archives::RECORD;
 use crate::difference::Difference;
 use crate::input::Input;
 use std::path::{Path, PathBuf};
@@ -24,7 +25,8 @@ impl Saved {
     pub fn write(&self, folder: &Path, difference: &Difference) -> io::Result<PathBuf> {
         let path = folder.join(self.file_name());
         let Difference { what, expected, got } = difference;
-        let comment = format!("# differs: {what}\n# expected: {expected}\n# got: {got}\n");
+        let repeat = "# compared again by tests/rust/run again FILE\n";
+        let comment = format!("{repeat}# differs: {what}\n# expected: {expected}\n# got: {got}\n");
         fs::create_dir_all(folder)?;
         fs::write(&path, comment + &self.text())?;
         Ok(path)
@@ -56,7 +58,7 @@ impl Saved {
     fn of_text(text: &str) -> Result<Saved, String> {
         let input = Input {
             plant: part(text, "plant", bytes)?,
-            record: part(text, "record", bytes)?,
+            record: part(text, "record", record)?,
             requests: part(text, "requests", bytes)?,
             buffer: part(text, "buffer", |value| value.parse().ok())?,
         };
@@ -84,6 +86,11 @@ fn bytes(hex: &str) -> Option<Vec<u8>> {
     Some(pairs.chunks(2).map(|pair| 16 * pair[0] + pair[1]).collect())
 }
 
+/// No record, or a whole one: a part of one cannot be lent.
+fn record(hex: &str) -> Option<Vec<u8>> {
+    bytes(hex).filter(|record| [0, RECORD].contains(&record.len()))
+}
+
 #[cfg(test)]
 mod tests {
     use super::*;
@@ -95,7 +102,7 @@ mod tests {
     #[test]
     fn what_is_written_is_read() {
         let plant: Vec<u8> = (0..=255).collect();
-        let record = vec![165; 1670];
+        let record = vec![165; RECORD];
         let whole = saved(Input { plant, record, requests: vec![3, 0, 255, 0, 9], buffer: 587 });
         assert_eq!(Saved::of_text(&whole.text()), Ok(whole));
         let empty = saved(Input::default());
@@ -111,6 +118,7 @@ mod tests {
             ("plant: 0102", "plant: 010"),
             ("plant: 0102", "plant: 010x"),
             ("record:", ""),
+            ("record:", "record: 00"),
             ("buffer: 0", "buffer: none"),
         ] {
             assert!(text.contains(whole));
