@@ -67,6 +67,10 @@ pub fn same_bytes(
     expected: &[u8],
     got: &[u8],
 ) -> Result<(), Difference> {
+    // most are the same, and this is the fastest way to see it
+    if expected == got {
+        return Ok(());
+    }
     same(|| "length".to_string(), &expected.len(), &got.len())?;
     match (0..expected.len()).find(|&at| expected[at] != got[at]) {
         Some(at) => same(|| place(at), &expected[at], &got[at]),

@@ -1,7 +1,7 @@
 //! Memory that is lent to the archives: one end of it stands directly at memory
 //! without access, beside the other is a row of guard bytes.
 
-use crate::difference::{same, Difference};
+use crate::difference::{same, same_bytes, Difference};
 use crate::pages;
 
 /// The end of the content at which memory without access begins. A read or
@@ -12,8 +12,8 @@ pub enum Edge {
     End,
 }
 
-/// Bytes beside the other end.
-const GUARD: usize = 64;
+/// The bytes beside the other end.
+const GUARD: [u8; 64] = guard_bytes();
 
 pub struct Guarded {
     name: &'static str,
@@ -28,25 +28,23 @@ impl Guarded {
     /// length, begins at an even address at either edge.
     pub fn holding(name: &'static str, content: &[u8], edge: Edge) -> Guarded {
         let length = content.len();
-        let room = pages::take(length + GUARD);
+        let room = pages::take(length + GUARD.len());
         let begin = match edge {
             Edge::Start => 0,
             Edge::End => room.len() - length,
         };
         room[begin..begin + length].copy_from_slice(content);
         let guarded = Guarded { name, room, edge, begin, length };
-        let guard = guarded.guard();
-        for (i, byte) in guarded.room[guard..guard + GUARD].iter_mut().enumerate() {
-            *byte = guard_byte(i);
-        }
+        let beside = guarded.beside();
+        guarded.room[beside..beside + GUARD.len()].copy_from_slice(&GUARD);
         guarded
     }
 
     /// Where the guard bytes begin.
-    fn guard(&self) -> usize {
+    fn beside(&self) -> usize {
         match self.edge {
             Edge::Start => self.length,
-            Edge::End => self.begin - GUARD,
+            Edge::End => self.begin - GUARD.len(),
         }
     }
 
@@ -65,13 +63,12 @@ impl Guarded {
 
     /// No guard byte was written.
     pub fn guards_hold(&self) -> Result<(), Difference> {
-        let guard = self.guard();
-        for (i, byte) in self.room[guard..guard + GUARD].iter().enumerate() {
-            let from_content = (guard + i) as i64 - self.begin as i64;
-            let what = || format!("byte {from_content} counted from the {}", self.name);
-            same(what, &guard_byte(i), byte)?;
-        }
-        Ok(())
+        let beside = self.beside();
+        let what = |at| {
+            let from_content = (beside + at) as i64 - self.begin as i64;
+            format!("byte {from_content} counted from the {}", self.name)
+        };
+        same_bytes(what, &GUARD, &self.room[beside..beside + GUARD.len()])
     }
 
     /// Neither the content nor a guard byte was written.
@@ -88,8 +85,14 @@ impl Drop for Guarded {
 }
 
 /// No two neighbours are alike, so a copy to the wrong place shows.
-fn guard_byte(at: usize) -> u8 {
-    (at * 37 + 165) as u8
+const fn guard_bytes() -> [u8; 64] {
+    let mut bytes = [165u8; 64];
+    let mut at = 1;
+    while at < 64 {
+        bytes[at] = bytes[at - 1].wrapping_add(37);
+        at += 1;
+    }
+    bytes
 }
 
 #[cfg(test)]
