@@ -8,29 +8,10 @@
 //!
 //! It is run in the repository's folder. The last line is 'N passed, M failed'.
 
-mod again;
-mod archives;
-mod comparisons;
-mod counts;
-mod difference;
-mod every;
-mod fault;
-mod group;
-mod groups;
-mod guarded;
-mod input;
-mod pages;
-mod probe;
-mod program;
-mod saved;
-mod seeded;
-mod session;
-mod shrink;
-mod smaller;
-
-use counts::{Counts, ENTRIES};
-use group::{Group, Inputs};
-use guarded::Edge;
+use compare::counts::{Counts, ENTRIES};
+use compare::group::{Group, Inputs};
+use compare::guarded::Edge;
+use compare::{again, fault, groups, probe, program, saved};
 use std::io::Write;
 use std::path::Path;
 use std::process::ExitCode;
