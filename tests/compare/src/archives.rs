@@ -190,3 +190,28 @@ pub fn place_of(part: &[u8], whole: &[u8]) -> Place {
         }
     }
 }
+
+#[cfg(test)]
+mod tests {
+    use super::*;
+
+    #[test]
+    fn a_call_is_made_at_both_edges_and_its_outcomes_are_compared() {
+        assert!(at_both_edges(|_| Ok(7)).is_ok_and(|outcome| outcome == 7));
+        assert!(at_both_edges(Ok).is_err());
+    }
+
+    #[test]
+    fn a_call_is_made_on_both_records_and_the_records_are_compared() {
+        let mut lent = Lent::holding(&[0; RECORD]);
+        assert!(lent.on_both(|_| Ok(7)).is_ok_and(|outcome| outcome == 7));
+        assert!(lent.on_both(|record| Ok(record.edge())).is_err());
+        let written = lent.on_both(|record| {
+            let byte = u8::from(record.edge() == Edge::Start);
+            // SAFETY: the record has more than so many bytes.
+            unsafe { *record.pointer().add(1600) = byte };
+            Ok(7)
+        });
+        assert!(written.is_err_and(|difference| difference.what == place_in_record(1600)));
+    }
+}
