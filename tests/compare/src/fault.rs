@@ -57,6 +57,9 @@ pub fn tell() {
     assert_eq!(outcome, 0, "a handler can be set");
 }
 
+/// What is said of every fault.
+const FAULT: &str = "a read or write outside a lent buffer, or a stack that ran out (SIGSEGV)";
+
 /// The handler. It allocates nothing, takes no lock and does not return: the
 /// read would only be tried again.
 extern "C" fn told(_: c_int) {
@@ -76,5 +79,3 @@ extern "C" fn told(_: c_int) {
         _exit(1)
     }
 }
-
-const FAULT: &str = "a read or write outside a lent buffer, or a stack that ran out (SIGSEGV)";

@@ -16,6 +16,9 @@ use std::io::Write;
 use std::path::Path;
 use std::process::ExitCode;
 
+const USAGE: &str = "usage: compare [SEED COUNT [GROUP] | again FILE], \
+    SEED and COUNT being numbers and COUNT over 0";
+
 /// The gate's first seed.
 const SEED: u64 = 1;
 
@@ -55,7 +58,7 @@ fn main() -> ExitCode {
             return ExitCode::SUCCESS;
         }
         None => {
-            println!("usage: compare [SEED COUNT [GROUP] | again FILE], SEED and COUNT being numbers and COUNT over 0");
+            println!("{USAGE}");
             return ExitCode::from(2);
         }
     }
