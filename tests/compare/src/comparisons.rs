@@ -54,7 +54,12 @@ pub fn batch(input: &Input, counts: &mut Counts) -> Result<(), Difference> {
 
 /// Section: where the part of the caller's bytes stands, for every kind.
 pub fn section(input: &Input, _: &mut Counts) -> Result<(), Difference> {
-    for kind in KINDS {
+    sections(input, KINDS)
+}
+
+/// The same for these kinds.
+pub fn sections(input: &Input, kinds: impl IntoIterator<Item = usize>) -> Result<(), Difference> {
+    for kind in kinds {
         let part = permit_monitor::section(&input.plant, kind);
         let got = archives::section(&input.plant, kind)?;
         same(|| format!("section {kind}"), &place_of(part, &input.plant), &got)?;

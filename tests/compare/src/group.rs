@@ -4,11 +4,14 @@
 use crate::comparisons::Comparison;
 use crate::counts::Counts;
 use crate::difference::Difference;
+use crate::fault::{self, Case};
 use crate::input::Input;
+use crate::saved::Saved;
 use crate::shrink::shortest;
 use permit_monitor::gen::Rng;
 use std::ops::Range;
 use std::panic::{catch_unwind, AssertUnwindSafe};
+use std::path::Path;
 use std::thread;
 
 pub struct Group {
@@ -82,6 +85,7 @@ impl Group {
     fn run_share(&self, numbers: impl Iterator<Item = u64>) -> Found {
         let mut found = Found::default();
         for number in numbers {
+            fault::begin(self.case(number));
             match self.inputs_of(number) {
                 Ok(inputs) => {
                     inputs.into_iter().for_each(|input| self.take(number, input, &mut found))
@@ -107,12 +111,21 @@ impl Group {
         })
     }
 
-    fn compared(&self, input: &Input, counts: &mut Counts) -> Result<(), Difference> {
+    pub fn compared(&self, input: &Input, counts: &mut Counts) -> Result<(), Difference> {
         without_panic(|| (self.compare)(input, counts))
     }
 
-    /// The line of the group, and what differs where something does.
-    pub fn report(&self, numbers: Range<u64>, found: &Found) -> String {
+    pub fn case(&self, number: u64) -> Case {
+        let source = match self.inputs {
+            Inputs::Seeded { .. } => "seed",
+            Inputs::Every { .. } => "number",
+        };
+        Case { group: self.name, source, number }
+    }
+
+    /// The line of the group, and what differs where something does. The input
+    /// is put into a file of this folder.
+    pub fn report(&self, numbers: Range<u64>, found: &Found, folder: &Path) -> String {
         let source = match self.inputs {
             Inputs::Seeded { .. } => format!("seeds {} to {}", numbers.start, numbers.end - 1),
             Inputs::Every { .. } => "every one".to_string(),
@@ -123,17 +136,30 @@ impl Group {
             (None, Some(wrong)) => format!("FAILED: {line}: {wrong}"),
             (Some(first), _) => {
                 let differing = found.differing;
-                format!("{}\nFAILED: {line}, {differing} of them differ", self.explain(first))
+                let explained = self.explain(first, folder);
+                format!("{explained}\nFAILED: {line}, {differing} of them differ")
             }
         }
     }
 
-    /// The first difference, and the shortest input that shows one.
-    fn explain(&self, first: &First) -> String {
-        let source = match self.inputs {
-            Inputs::Seeded { .. } => "seed",
-            Inputs::Every { .. } => "number",
+    /// What differs, on the shortest input that shows it, and how to repeat it.
+    fn explain(&self, first: &First, folder: &Path) -> String {
+        let case = self.case(first.number);
+        fault::begin(case);
+        let (input, difference) = self.shortened(first);
+        let Case { group, source, number } = case;
+        let saved = Saved { group: group.to_string(), number, input };
+        let repeat = match saved.write(folder, &difference) {
+            Ok(path) => format!("file: {0}\n  repeat: tests/rust/run again {0}", path.display()),
+            Err(error) => {
+                format!("no file: {error}\n  repeat: tests/rust/run {number} 1 \"{group}\"")
+            }
         };
+        format!("{group}: {source} {number}\n{difference}\n  input: {}\n  {repeat}", saved.input)
+    }
+
+    /// The shortest input that shows a difference, and that difference.
+    fn shortened(&self, first: &First) -> (Input, Difference) {
         // a shorter input that panics shows another fault than one that differs
         let panics = |difference: &Difference| difference.got == PANIC;
         let differs = |input: &Input| {
@@ -145,15 +171,7 @@ impl Group {
         let input = shorter.unwrap_or_else(|_| first.input.clone());
         let again = self.compared(&input, &mut Counts::default());
         let difference = again.err().unwrap_or_else(|| first.difference.clone());
-        format!(
-            "{}: {source} {}\n  found: {}\n{input}\n  differs: {}\n  expected: {}\n  got: {}",
-            self.name,
-            first.number,
-            first.difference.what,
-            difference.what,
-            difference.expected,
-            difference.got
-        )
+        (input, difference)
     }
 }
 
@@ -189,5 +207,51 @@ impl Found {
             (Some(a), Some(b)) => Some(if a.number <= b.number { a } else { b }),
             (a, b) => a.or(b),
         };
+    }
+}
+
+#[cfg(test)]
+mod tests {
+    use super::*;
+    use crate::difference::same;
+
+    /// Differs from the byte 7 on, at great length.
+    fn wrong(input: &Input, _: &mut Counts) -> Result<(), Difference> {
+        let got = if input.plant.contains(&7) { [7; 1000] } else { [0; 1000] };
+        same(|| "a thousand numbers".to_string(), &[0; 1000], &got)
+    }
+
+    /// Its inputs have the bytes up to their number, but the first has none.
+    const GROUP: Group = Group {
+        name: "a group's name, with a comma",
+        inputs: Inputs::Every {
+            count: 10,
+            make: |number| vec![Input { plant: (1..=number as u8).collect(), ..Input::default() }],
+        },
+        compare: wrong,
+        known: &[],
+    };
+
+    #[test]
+    fn a_difference_is_reported_short_and_its_input_is_in_a_file() {
+        let folder = std::env::temp_dir().join(format!("compare-{}", std::process::id()));
+        let found = GROUP.run(0..10);
+        let report = GROUP.report(0..10, &found, &folder);
+        let path = folder.join("a-group-s-name-with-a-comma-7.txt");
+        let saved = Saved::read(&path).expect("the file is there");
+        std::fs::remove_dir_all(&folder).expect("the folder is there");
+
+        assert_eq!(saved.group, GROUP.name);
+        assert_eq!(saved.input, Input { plant: vec![7], ..Input::default() });
+        assert!(GROUP.compared(&saved.input, &mut Counts::default()).is_err());
+        let lines: Vec<&str> = report.lines().collect();
+        assert_eq!(lines.len(), 8, "{report}");
+        assert!(lines.iter().all(|line| line.len() < 300), "{report}");
+        assert_eq!(lines[0], "a group's name, with a comma: number 7");
+        assert_eq!(lines[4], "  input: plant 1, record 0, requests 0, buffer 0 bytes");
+        assert_eq!(lines[5], format!("  file: {}", path.display()));
+        assert_eq!(lines[6], format!("  repeat: tests/rust/run again {}", path.display()));
+        let last = "FAILED: a group's name, with a comma: 10 cases, every one, 3 of them differ";
+        assert_eq!(lines[7], last);
     }
 }

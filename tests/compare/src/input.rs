@@ -22,30 +22,11 @@ impl Input {
     }
 }
 
+/// The sizes of the parts, on one line.
 impl fmt::Display for Input {
     fn fmt(&self, f: &mut fmt::Formatter) -> fmt::Result {
-        for (name, bytes) in
-            [("plant", &self.plant), ("record", &self.record), ("requests", &self.requests)]
-        {
-            if !bytes.is_empty() {
-                writeln!(f, "  {name} ({} bytes): {}", bytes.len(), hex(bytes))?;
-            }
-        }
-        write!(f, "  buffer: {} bytes", self.buffer)
+        let Input { plant, record, requests, buffer } = self;
+        let [plant, record, requests] = [plant, record, requests].map(Vec::len);
+        write!(f, "plant {plant}, record {record}, requests {requests}, buffer {buffer} bytes")
     }
-}
-
-/// Runs of at least so many equal bytes are written as one.
-const RUN: usize = 16;
-
-/// The bytes in base sixteen; a long run of one byte as (times*byte).
-pub fn hex(bytes: &[u8]) -> String {
-    let mut text = String::new();
-    for run in bytes.chunk_by(|a, b| a == b) {
-        match run.len() {
-            0..RUN => text.extend(run.iter().map(|byte| format!("{byte:02x}"))),
-            times => text.push_str(&format!("({times}*{:02x})", run[0])),
-        }
-    }
-    text
 }

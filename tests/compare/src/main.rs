@@ -3,33 +3,33 @@
 //!     compare                       the gate: every group, fixed seeds
 //!     compare SEED COUNT            the seeded groups, COUNT seeds from SEED on
 //!     compare SEED COUNT GROUP      the groups whose name begins so
+//!     compare again FILE            the input in the file of a difference
+//!     compare read EDGE AT          one read, for the test that a read outside is noticed
 //!
 //! It is run in the repository's folder. The last line is 'N passed, M failed'.
 
-mod archives;
-mod comparisons;
-mod counts;
-mod difference;
-mod every;
-mod group;
-mod groups;
-mod guarded;
-mod input;
-mod program;
-mod seeded;
-mod session;
-mod shrink;
-mod smaller;
-
-use counts::{Counts, ENTRIES};
-use group::{Group, Inputs};
+use compare::counts::{Counts, ENTRIES};
+use compare::group::{Group, Inputs};
+use compare::guarded::Edge;
+use compare::{again, fault, groups, probe, program, saved};
 use std::io::Write;
+use std::path::Path;
 use std::process::ExitCode;
+
+const USAGE: &str = "usage: compare [SEED COUNT [GROUP] | again FILE], \
+    SEED and COUNT being numbers and COUNT over 0";
 
 /// The gate's first seed.
 const SEED: u64 = 1;
 
 /// What the command line asks for.
+enum Asked {
+    Groups(Wanted),
+    Again(String),
+    Read(Edge, isize),
+}
+
+/// Groups, and how much of them.
 struct Wanted {
     seed: u64,
     /// None in the gate, where each group has its own count.
@@ -46,25 +46,35 @@ struct Tally {
 }
 
 fn main() -> ExitCode {
+    fault::tell();
     let arguments: Vec<String> = std::env::args().skip(1).collect();
-    let Some(wanted) = wanted(&arguments) else {
-        println!(
-            "usage: compare [SEED COUNT [GROUP]], SEED and COUNT being numbers and COUNT over 0"
-        );
-        return ExitCode::from(2);
-    };
+    let arguments: Vec<&str> = arguments.iter().map(String::as_str).collect();
     let mut tally = Tally::default();
-    tally.run(&wanted, groups::on_archives());
-    tally.run_program(&wanted);
-    if tally.passed + tally.failed == 0 {
-        tally.add(false, "FAILED: there is no group whose name begins so");
+    match asked(&arguments) {
+        Some(Asked::Groups(wanted)) => tally.run_all(&wanted),
+        Some(Asked::Again(file)) => tally.run_again(Path::new(&file)),
+        Some(Asked::Read(edge, at)) => {
+            probe::read(edge, at);
+            return ExitCode::SUCCESS;
+        }
+        None => {
+            println!("{USAGE}");
+            return ExitCode::from(2);
+        }
     }
-    tally.report_counts(&wanted);
     println!("{} passed, {} failed", tally.passed, tally.failed);
     ExitCode::from(u8::from(tally.failed != 0))
 }
 
-fn wanted(arguments: &[String]) -> Option<Wanted> {
+fn asked(arguments: &[&str]) -> Option<Asked> {
+    Some(match arguments {
+        ["again", file] => Asked::Again(file.to_string()),
+        ["read", edge, at] => Asked::Read(probe::edge(edge)?, at.parse().ok()?),
+        _ => Asked::Groups(wanted(arguments)?),
+    })
+}
+
+fn wanted(arguments: &[&str]) -> Option<Wanted> {
     match arguments {
         [] => Some(Wanted { seed: SEED, count: None, name: String::new() }),
         [seed, count, name @ ..] if name.len() <= 1 => Some(Wanted {
@@ -86,13 +96,29 @@ impl Wanted {
 }
 
 impl Tally {
+    fn run_all(&mut self, wanted: &Wanted) {
+        self.run(wanted, groups::on_archives());
+        self.run_program(wanted);
+        if self.passed + self.failed == 0 {
+            self.add(false, "FAILED: there is no group whose name begins so");
+        }
+        self.report_counts(wanted);
+    }
+
+    fn run_again(&mut self, file: &Path) {
+        match again::compared_again(file) {
+            Ok(line) => self.add(true, &line),
+            Err(lines) => self.add(false, &lines),
+        }
+    }
+
     fn run(&mut self, wanted: &Wanted, groups: Vec<Group>) {
         for group in groups.iter().filter(|group| wanted.has(group)) {
             let numbers = group.numbers(wanted.seed, wanted.count);
             let found = group.run(numbers.clone());
             self.counts.merge(&found.counts);
             let passes = found.first.is_none() && group.miscounted(&found).is_none();
-            self.add(passes, &group.report(numbers, &found));
+            self.add(passes, &group.report(numbers, &found, Path::new(saved::FOLDER)));
         }
     }
 
@@ -102,7 +128,7 @@ impl Tally {
         if program::is_built() {
             self.run(wanted, groups);
         } else if groups.iter().any(|group| wanted.has(group)) {
-            println!("target/bin/permits is missing; `rt check permits` makes it");
+            println!("{}", program::MISSING);
             self.add(false, "FAILED: program: nothing was compared");
         }
     }

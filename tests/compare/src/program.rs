@@ -26,6 +26,9 @@ const BYTE_BY_BYTE: usize = 6000;
 const SIZES: [usize; 17] =
     [0, 1, 2, 21, 22, 23, 24, 25, 131, 132, 133, 137, 65_532, 65_535, 65_536, 65_537, 131_072];
 
+/// What is to be done where there is none.
+pub const MISSING: &str = "target/bin/permits is missing; `rt check permits` makes it";
+
 /// Whether there is a program to compare.
 pub fn is_built() -> bool {
     Path::new(PROGRAM_FILE).exists()
