@@ -60,8 +60,9 @@ enum permits_answer {
     PERMITS_REQUIREMENT_NOT_NAMED = 12, /* a task names a right on a group whose requirement it doesn't name */
 
     /* a call or a queue on a monitor is refused */
-    PERMITS_MONITOR_NOT_INTACT = 20, /* the record's plant breaks 3 or 7 to 12, or a level, running task or chosen tank
-                                      * is out of range */
+    PERMITS_MONITOR_NOT_INTACT = 20, /* the record's plant breaks 3 or 7 to 12, a stored level is not in its lattice, a
+                                      * running task is not one that the skid may run, or a chosen tank, where that task
+                                      * has a right, is not of its group */
 
     /* a call is refused */
     PERMITS_NO_SUCH_SKID = 21,
@@ -151,14 +152,14 @@ typedef struct permits_plant {
     uint8_t tasks;
     uint8_t skids;
     uint8_t sizes[8];       /* each lattice's number of levels */
-    uint16_t sets[128];     /* set i of lattice l at l * 16 + i */
+    uint16_t sets[128];     /* set i of lattice l at l * 16 + i: bit j says that level i is at or under level j */
     uint8_t lattice[8];     /* each requirement's lattice */
     uint8_t requirement[8]; /* each group's requirement */
     uint8_t group[64];      /* each tank's group */
     uint8_t level[64];      /* each tank's level */
-    uint8_t names[16];      /* the requirements that each task names, a bit each */
-    uint8_t rights[128];    /* the rights of task t on group g at t * 8 + g, a bit each */
-    uint16_t may[8];        /* the tasks that each skid may run, a bit each */
+    uint8_t names[16];      /* the requirements that each task names: bit d is requirement d */
+    uint8_t rights[128];    /* the rights of task t on group g at t * 8 + g: bit r is right r */
+    uint16_t may[8];        /* the tasks that each skid may run: bit t is task t */
 } permits_plant;
 
 /* A monitor. A console may copy, store and compare it; the calls alone should write it. In a monitor m,
@@ -210,8 +211,8 @@ static_assert(sizeof(permits_request) == 5, "size of a request");
 static_assert(sizeof(permits_place) == 16, "size of a place");
 static_assert(offsetof(permits_place, length) == 8, "place of length");
 
-/* Batch, in libpanel.a: opens the plant and makes the requests, five bytes each, beginning at the fresh monitor.
- * Returns 1 to 12, 34, 31 or 0, in this order. With 0 and n requests, out[i] is the answer to request i and out[n] the
+/* Batch, in libpanel.a: opens the plant and makes the requests, five bytes each as in permits_request, beginning at
+ * the fresh monitor. Returns 1 to 12, 34, 31 or 0, in this order. With 0 and n requests, out[i] is the answer to request i and out[n] the
  * count of rights held; from out[n + 1] on stand skid, tank and right of each of them, rising in that order. The rest
  * of out is not written. */
 uint8_t permits_batch(const uint8_t *plant, size_t plant_len, const uint8_t *requests, size_t requests_len, uint8_t *out, size_t out_len);

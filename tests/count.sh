@@ -26,8 +26,8 @@ try() {
     fi
 }
 
-# stage COMMAND..: a script with tests of its own, whose numbers are added. One that stops without its last line, or that fails while it
-# counts no failure, is a failure itself.
+# stage COMMAND..: a script with tests of its own, whose numbers are added. One that stops without its last line, that runs no test, or that fails
+# while it counts no failure, is a failure itself.
 stage() {
     local log status=0
     log=$(mktemp)
@@ -35,7 +35,10 @@ stage() {
     if counted "$(tail -n 1 "$log")"; then
         passed=$((passed + BASH_REMATCH[1]))
         failed=$((failed + BASH_REMATCH[2]))
-        if ((status != 0 && BASH_REMATCH[2] == 0)); then
+        if ((BASH_REMATCH[1] + BASH_REMATCH[2] == 0)); then
+            failed=$((failed + 1))
+            echo "FAILED: '$*' ran no test"
+        elif ((status != 0 && BASH_REMATCH[2] == 0)); then
             failed=$((failed + 1))
             echo "FAILED: '$*' ended with status $status"
         fi

@@ -74,7 +74,8 @@ def edits(root):
 
 def rows(root):
     """The rows of the document: the edit, what it changes, what it gets wrong, and where it is refused."""
-    return ROW.findall((root / DOCUMENT).read_text())
+    path = root / DOCUMENT
+    return ROW.findall(path.read_text()) if path.exists() else []
 
 
 def table(root):
