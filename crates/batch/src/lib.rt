@@ -8,8 +8,8 @@ ghost use Rattle.plant.specs.Checks.{plantRefusal};
 ghost use Rattle.rules.specs.Record.{fresh};
 ghost use Rattle.rules.specs.Run.{runs, ends};
 ghost use Rattle.batch.specs.Requests.{requestAt, callsOf};
-use calls::turn;
 use plant::Plant;
+use turns::turn;
 
 // The changing parts of a monitor, beside its plant.
 pub struct Parts {

@@ -7,15 +7,10 @@ ghost use Rattle.base.specs.Below.{allBelow};
 ghost use Rattle.plant.specs.Checks.{Fits, entryBelow};
 ghost use Rattle.rules.specs.Record.{intact};
 ghost use Rattle.intact.specs.Raw.{levelsFrom, levelsByRequirement, Free, levelIn, rowIn, skidLevelsIn, taskIn, tankIn, chosenIn, runsIn, skidRunsIn, partsIn};
+use checks::refusal;
 use plant::Plant;
-use plant::refusal;
 use rules::Monitor;
-
-fn wide(x: u8) -> usize
-    ensures { λ r. ⌜ r ≡ x ⌝ }
-{
-    x as usize
-}
+use sets::wide;
 
 // How many levels a requirement has.
 fn levels_at<'a>(sizes: &'a [u8; 8], lattice: &'a [u8; 8], d: usize) -> u8

@@ -6,11 +6,11 @@ ghost use mathlib.Core.Bool.{true};
 ghost use Rattle.rules.specs.Record.{fresh, intact};
 ghost use Rattle.calls.specs.Work.{callBy};
 ghost use Rattle.monitor.specs.Calls.{stepOf, openedOf};
-use calls::grants_of;
-use calls::turn;
 use intact::is_intact;
 use plant::Plant;
 use rules::Monitor;
+use steps::grants_of;
+use turns::turn;
 
 // The answer to a call, and the monitor after it.
 #[repr(C)]

@@ -11,7 +11,7 @@ ghost use Rattle.panel.specs.Batch.{refusalBy, outcome, batchRefusal, ba
 use batch::serve;
 use held::write_held;
 use layout::Place;
-use layout::section_place;
+use parts::section_place;
 use plant::Plant;
 use reader::read;
 

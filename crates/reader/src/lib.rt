@@ -5,20 +5,21 @@ ghost use Rattle.layout.specs.Layout.{lattices, tanks, tasks, skids, sections, 
 ghost use Rattle.layout.specs.Header.{placingRefusal};
 ghost use Rattle.plant.specs.Plant.{noPlant};
 ghost use Rattle.reader.specs.Reading.{oneCell, firstCell, latticeSets, taskNames, taskRights, skidTasks, zeroByte, bytesIn, wordsIn, plantOf, zeros, otherZeros, refusedWith, readingOf};
-use layout::GROUPS;
-use layout::LATTICES;
-use layout::REQUIREMENTS;
-use layout::SKIDS;
-use layout::TANKS;
-use layout::TASKS;
-use layout::bytes_into;
-use layout::count_byte;
-use layout::count_of;
-use layout::part_of;
-use layout::placing_refusal;
-use layout::width_of;
-use layout::words_into;
-use layout::zeros_at;
+use cells::bytes_into;
+use cells::words_into;
+use cells::zeros_at;
+use checks::refusal;
+use header::GROUPS;
+use header::LATTICES;
+use header::REQUIREMENTS;
+use header::SKIDS;
+use header::TANKS;
+use header::TASKS;
+use header::count_byte;
+use header::count_of;
+use header::width_of;
+use parts::part_of;
+use parts::placing_refusal;
 use plant::Plant;
 
 // Where a record's cells begin, and how many there are where it has several. FIRST is a lattice's size, a requirement's lattice, a group's requirement.
@@ -212,7 +213,7 @@ pub fn read(file: &[u8]) -> Reading
         return refused(number);
     }
     let p = plant_from(file);
-    let answer = plant::refusal(p, zeros_in(file, LATTICES), other_zeros(file));
+    let answer = refusal(p, zeros_in(file, LATTICES), other_zeros(file));
     if answer != 0 {
         return refused(answer);
     }

@@ -1,9 +1,9 @@
 // The program sections: a plant file on standard input, the bytes of its six sections, in the header's order, on standard output. It runs the part
 // that layout's `section` returns.
-use layout::SECTIONS;
-use layout::section;
+use header::SECTIONS;
 use libc::STDIN_FILENO;
 use libc::STDOUT_FILENO;
+use parts::section;
 
 // One byte more than a plant file has, so that a longer one is refused.
 const INPUT: usize = 4097;

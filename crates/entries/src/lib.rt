@@ -1,0 +1,194 @@
+// Opening's check 10 on a record: the numbers, levels and bits of each kind of record.
+ghost use mathlib.Core.Path.{_≡_};
+ghost use mathlib.Core.Bool.{true};
+ghost use Prim.Native.Nat.{_<_, _≤_};
+ghost use lib.ListN.{getD, replicate};
+ghost use Rattle.base.specs.Below.{allBelow};
+ghost use Rattle.base.specs.Bits.{noneFrom};
+ghost use Rattle.base.specs.Fill.{fill};
+ghost use Rattle.plant.specs.Checks.{Fits, entryBelow, entryClear, tankIn, tankFits, rightIn, taskRightsIn, taskIn, numbersOk, levelsFrom};
+use plant::Plant;
+use plant::Right;
+use sets::wide;
+
+// Each of n entries is below a bound.
+fn all_below(xs: &[u8; 8], n: usize, bound: u8) -> bool
+    requires { ⌜ n ≤ 8 ⌝ }
+    ensures { λ r. ⌜ r ≡ allBelow (entryBelow (now (xs .entry)) bound) n ⌝ }
+{
+    for i in 0..n {
+        if bound <= xs[i] {
+            return false;
+        }
+    }
+    true
+}
+
+// How many levels the requirement of a group has, and the list of these.
+fn levels_at<'a>(sizes: &'a [u8; 8], lattice: &'a [u8; 8], requirement: &'a [u8; 8], g: usize) -> u8
+    requires { ⌜ (g < 8) × ((getD (now requirement) g 0 < 8) × (getD (now lattice) (getD (now requirement) g 0) 0 < 8)) ⌝ }
+    ensures { λ r. ⌜ r ≡ levelsFrom (now (sizes .entry)) (now (lattice .entry)) (now (requirement .entry)) g ⌝ }
+{
+    let d = wide(requirement[g]);
+    let l = wide(lattice[d]);
+    sizes[l]
+}
+
+fn levels_by_group<'a>(
+    sizes: &'a [u8; 8],
+    lattice: &'a [u8; 8],
+    requirement: &'a [u8; 8],
+    lattices: u8,
+    requirements: u8,
+    groups: u8,
+) -> [u8; 8]
+    requires { ⌜ (lattices ≤ 8) × ((requirements ≤ 8) × (groups ≤ 8)) ⌝ }
+    requires { ⌜ allBelow (entryBelow (now lattice) lattices) requirements ≡ true ⌝ }
+    requires { ⌜ allBelow (entryBelow (now requirement) requirements) groups ≡ true ⌝ }
+    ensures { λ r. ⌜ r ≡ fill (levelsFrom (now (sizes .entry)) (now (lattice .entry)) (now (requirement .entry))) (replicate 8 0) groups ⌝ }
+{
+    let mut levels = [0u8; 8];
+    let n = groups as usize;
+    for g in 0..n {
+        levels[g] = levels_at(sizes, lattice, requirement, g);
+    }
+    levels
+}
+
+fn tank_fits(group: u8, level: u8, groups: u8, levels: &[u8; 8]) -> bool
+    requires { ⌜ groups ≤ 8 ⌝ }
+    ensures { λ r. ⌜ r ≡ tankIn (now (levels .entry)) groups group level ⌝ }
+{
+    if groups <= group {
+        return false;
+    }
+    level < levels[wide(group)]
+}
+
+fn tanks_within<'a>(
+    group: &'a [u8; 64],
+    level: &'a [u8; 64],
+    groups: u8,
+    tanks: u8,
+    levels: &[u8; 8],
+) -> bool
+    requires { ⌜ (groups ≤ 8) × (tanks ≤ 64) ⌝ }
+    ensures { λ r. ⌜ r ≡ allBelow (λ o. tankIn (now (levels .entry)) groups (getD (now (group .entry)) o 0) (getD (now (level .entry)) o 0)) tanks ⌝ }
+{
+    let n = tanks as usize;
+    for o in 0..n {
+        if !tank_fits(group[o], level[o], groups, levels) {
+            return false;
+        }
+    }
+    true
+}
+
+fn tanks_fit(p: Plant) -> bool
+    requires { ⌜ Fits p ⌝ }
+    requires { ⌜ allBelow (entryBelow (p .lattice) (p .lattices)) (p .requirements) ≡ true ⌝ }
+    requires { ⌜ allBelow (entryBelow (p .requirement) (p .requirements)) (p .groups) ≡ true ⌝ }
+    ensures { λ r. ⌜ r ≡ allBelow (tankFits p) (p .tanks) ⌝ }
+{
+    let levels = levels_by_group(
+        &p.sizes,
+        &p.lattice,
+        &p.requirement,
+        p.lattices,
+        p.requirements,
+        p.groups,
+    );
+    tanks_within(&p.group, &p.level, p.groups, p.tanks, &levels)
+}
+
+// No bit of x at or past n. A shift by 16 wants the wider number.
+fn none_from(x: u16, n: u8) -> bool
+    requires { ⌜ n ≤ 16 ⌝ }
+    ensures { λ r. ⌜ r ≡ noneFrom n x ⌝ }
+{
+    (x as u32) >> n == 0
+}
+
+fn right_fits(x: u8, g: usize, groups: usize) -> bool
+    ensures { λ r. ⌜ r ≡ rightIn groups g x ⌝ }
+{
+    if !none_from(x as u16, Right::COUNT) {
+        return false;
+    }
+    if g < groups {
+        return true;
+    }
+    x == 0
+}
+
+fn rights_fit(rights: &[u8; 128], groups: usize, t: usize) -> bool
+    requires { ⌜ t < 16 ⌝ }
+    ensures { λ r. ⌜ r ≡ allBelow (taskRightsIn (now (rights .entry)) groups t) 8 ⌝ }
+{
+    for g in 0..8 {
+        if !right_fits(rights[t * 8 + g], g, groups) {
+            return false;
+        }
+    }
+    true
+}
+
+fn task_fits(names: u8, rights: &[u8; 128], requirements: u8, groups: usize, t: usize) -> bool
+    requires { ⌜ (requirements ≤ 16) × (t < 16) ⌝ }
+    ensures { λ r. ⌜ r ≡ taskIn names (now (rights .entry)) requirements groups t ⌝ }
+{
+    none_from(names as u16, requirements) && rights_fit(rights, groups, t)
+}
+
+fn tasks_fit<'a>(
+    names: &'a [u8; 16],
+    rights: &'a [u8; 128],
+    requirements: u8,
+    groups: u8,
+    tasks: u8,
+) -> bool
+    requires { ⌜ (requirements ≤ 16) × (tasks ≤ 16) ⌝ }
+    ensures { λ r. ⌜ r ≡ allBelow (λ t. taskIn (getD (now (names .entry)) t 0) (now (rights .entry)) requirements groups t) tasks ⌝ }
+{
+    let n = tasks as usize;
+    for t in 0..n {
+        if !task_fits(names[t], rights, requirements, groups as usize, t) {
+            return false;
+        }
+    }
+    true
+}
+
+fn skids_fit(may: &[u16; 8], tasks: u8, skids: u8) -> bool
+    requires { ⌜ (tasks ≤ 16) × (skids ≤ 8) ⌝ }
+    ensures { λ r. ⌜ r ≡ allBelow (entryClear (now (may .entry)) tasks) skids ⌝ }
+{
+    let n = skids as usize;
+    for s in 0..n {
+        if !none_from(may[s], tasks) {
+            return false;
+        }
+    }
+    true
+}
+
+pub fn numbers_ok(p: Plant) -> bool
+    requires { ⌜ Fits p ⌝ }
+    ensures { λ r. ⌜ r ≡ numbersOk p ⌝ }
+{
+    let requirements = p.requirements as usize;
+    if !all_below(&p.lattice, requirements, p.lattices) {
+        return false;
+    }
+    let groups = p.groups as usize;
+    if !all_below(&p.requirement, groups, p.requirements) {
+        return false;
+    }
+    if !tanks_fit(p) {
+        return false;
+    }
+    if !tasks_fit(&p.names, &p.rights, p.requirements, p.groups, p.tasks) {
+        return false;
+    }
+    skids_fit(&p.may, p.tasks, p.skids)
+}

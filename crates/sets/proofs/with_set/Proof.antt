@@ -1,0 +1,14 @@
+-- `sets::with_set` meets its contract. Assumes nothing.
+use mathlib.Core.Path.{sym, _∙_}
+use borrow.Author.Needs.{needs}
+use Rattle.sets.proofs.with_set.Statement.{statement}
+use Rattle.sets.proofs.with_set.Tie as tie
+
+has-it : tie.Need-returns
+has-it c = rw (sym (c .before .has .ensures) ∙ c .if1 .taken)
+
+has-not : tie.Need-returns-2
+has-not c = rw (sym (c .before .has .ensures) ∙ c .if1 .left)
+
+pub with-set-spec : {M : Type 1} → statement M
+with-set-spec = tie.close (tie.spec (λ c κs. search needs) has-it has-not)
