@@ -23,13 +23,13 @@ use Rattle.calls.specs.Work.{taskKnown, levelKnown, wishKnown}
 
 module _ (m : Monitor) (i : intact (m .plant) m ≡ true) where
   pub plant-sound : Sound (m .plant)
-  plant-sound = intact-means (m .plant) m .0 i .0
+  plant-sound = intact-means (m .plant) (viewOf (m .plant) m) .0 i .plant-sound
 
   pub plant-valid : Valid (m .plant)
   plant-valid = valid (m .plant) plant-sound
 
   skid-intact : (s : ℕ) → s < m .plant .skids → IntactView (m .plant) s (viewOf (m .plant) m s)
-  skid-intact = intact-means (m .plant) m .0 i .1
+  skid-intact = intact-means (m .plant) (viewOf (m .plant) m) .0 i .skids-intact
 
   pub lattices-there : allBelow (entryBelow (m .plant .lattice) 8) (m .plant .requirements) ≡ true
   lattices-there = all-yes (m .plant .requirements) (entryBelow (m .plant .lattice) 8)

@@ -19,7 +19,7 @@ use Rattle.plant.proofs.Sound.{sound-law}
 use Rattle.plant.proofs.Valid.{valid}
 use Rattle.choice.specs.Choice.{unset}
 use Rattle.rules.specs.declared.Monitor.{Monitor}
-use Rattle.rules.specs.Intact.{levelOk, taskOk, tankOk, intactView}
+use Rattle.rules.specs.Intact.{levelOk, taskOk, tankOk, intactView, intactViews}
 use Rattle.rules.specs.Record.{viewOf, intact}
 use Rattle.intact.specs.Raw.{levelsFrom, levelsByRequirement, most, Free, rowIn, taskLevelsIn, skidLevelsIn, taskIn, chosenIn, skidRunsIn, partsIn}
 
@@ -68,7 +68,7 @@ module _ (P : Plant) (m : Monitor) (F : Fits P) (s : ℕ) (l : s < P .skids) whe
 -- k is the number that refuses the plant, or 0
 module _ (P : Plant) {k : ℕ} (e : k ≡ plantRefusal true true P) where
   pub refused : (m : Monitor) → (k ≡ 0 → ⊥) → false ≡ intact P m
-  unfolding intact
+  unfolding intactViews
   refused m n = rw (← e, ne-eqb k 0 n)
 
   module _ (z : k ≡ 0) where
@@ -83,6 +83,6 @@ module _ (P : Plant) {k : ℕ} (e : k ≡ plantRefusal true true P) where
 
     -- r is what the test of the changing parts returned
     pub intact-same : (m : Monitor) {r : Bool} → r ≡ partsIn P (m .levels) (m .running) (m .chosen) → r ≡ intact P m
-    unfolding intact
+    unfolding intactViews
     intact-same m h = h ∙ sym (rw (eq-eqb _ _ (sym e ∙ z))
         (all-same (P .skids) _ _ (λ s l. view-same P m fits s l) ∙ all-both (P .skids) (skidLevelsIn (m .levels) (most P) (P .requirements) (P .tasks)) (skidRunsIn P (m .running) (m .chosen))))

@@ -5,9 +5,10 @@ use Rattle.base.specs.Below.{allBelow}
 use Rattle.layout.specs.Header.{countOk}
 use Rattle.plant.specs.Plant.{noPlant}
 use Rattle.plant.specs.Checks.{countsIn, plantRefusal}
+use Rattle.rules.specs.Intact.{intactViews}
 use Rattle.rules.specs.Record.{intact}
 use Rattle.intact.specs.Zeros.{zeroMonitor}
 
 pub zeros-refused : intact noPlant zeroMonitor ≡ false
-unfolding intact plantRefusal countsIn countOk allBelow
+unfolding intactViews plantRefusal countsIn countOk allBelow
 zeros-refused = refl

@@ -1,4 +1,4 @@
--- Test 20 means its words, of a skid's view and of a whole record. Assumes nothing.
+-- Test 20 means its words, of a skid's view and of all of them. Assumes nothing.
 use mathlib.Core.Path.{_≡_}
 use mathlib.Core.Logic.{_⊎_, inl, inr, ⊎-elim, _↔_}
 use Prim.Native.Nat.{ℕ, _<_}
@@ -10,13 +10,11 @@ use Rattle.base.proofs.Logic.{split, and-true, and-both, or-cases, or-left, or-
 use Rattle.base.proofs.Below.{all-at, all-yes}
 use Rattle.plant.specs.declared.Plant.{Plant}
 use Rattle.plant.specs.Plant.{levelsOf, groupOf, needs, mayRun}
-use Rattle.plant.specs.Checks.{Sound, plantRefusal}
+use Rattle.plant.specs.Checks.{plantRefusal}
 use Rattle.plant.proofs.Sound.{sound-law}
 use Rattle.choice.specs.Choice.{unset}
 use Rattle.rules.specs.Rules.{View}
-use Rattle.rules.specs.declared.Monitor.{Monitor}
-use Rattle.rules.specs.Record.{viewOf, intact}
-use Rattle.rules.specs.Intact.{levelOk, taskOk, tankOk, intactView, IntactView}
+use Rattle.rules.specs.Intact.{levelOk, taskOk, tankOk, intactView, IntactView, intactViews, IntactViews}
 
 -- a number that is unset, or passes a test that means A
 unset-or : (n : ℕ) (b : Bool) {A : Type 0} → (b ≡ true) ↔ A → (eqb n unset || b ≡ true) ↔ ((n ≡ unset) ⊎ A)
@@ -76,12 +74,16 @@ module _ (P : Plant) (s : ℕ) (w : View) where
       from k = and-both _ _ (all-yes (P .tasks) levelsOk (λ t lt. all-yes (P .requirements) (λ (d : ℕ). levelOk P w t d) (λ d ld. level-means t d .1 (k .levels-known t d lt ld))))
           (and-both _ _ (task-means .1 (k .task-allowed)) (all-yes (P .groups) (λ (g : ℕ). tankOk P w g) (λ g l. tank-back g (k .tanks-of-group g l))))
 
--- A record passes test 20 exactly where its plant is sound and each skid's part is as the words have it.
-pub intact-means : (P : Plant) (m : Monitor) → (intact P m ≡ true) ↔ (Sound P × ((s : ℕ) → s < P .skids → IntactView P s (viewOf P m s)))
-unfolding intact
-intact-means P m = (
+-- test 20 passes exactly where the plant is sound and what is known of each skid is as the words have it
+pub intact-means : (P : Plant) (vs : ℕ → View) → (intactViews P vs ≡ true) ↔ IntactViews P vs
+unfolding intactViews
+intact-means P vs = (
   (λ e.
-      let a = and-true (eqb (plantRefusal true true P) 0) (allBelow (λ (s : ℕ). intactView P s (viewOf P m s)) (P .skids)) e in
-      (sound-law P .0 (eqb-true _ _ (a .0)), λ s l. view-means P s (viewOf P m s) .0 (all-at (P .skids) (λ (s : ℕ). intactView P s (viewOf P m s)) (a .1) s l))),
-  (λ k. and-both _ _ (eq-eqb _ _ (sound-law P .1 (k .0))) (all-yes (P .skids) (λ (s : ℕ). intactView P s (viewOf P m s)) (λ s l. view-means P s (viewOf P m s) .1 (k .1 s l)))),
+      let a = and-true (eqb (plantRefusal true true P) 0) (allBelow (λ (s : ℕ). intactView P s (vs s)) (P .skids)) e in
+      record {
+        plant-sound = sound-law P .0 (eqb-true _ _ (a .0));
+        skids-intact = λ s l. view-means P s (vs s) .0 (all-at (P .skids) (λ (s : ℕ). intactView P s (vs s)) (a .1) s l);
+      }),
+  (λ k. and-both _ _ (eq-eqb _ _ (sound-law P .1 (k .plant-sound)))
+      (all-yes (P .skids) (λ (s : ℕ). intactView P s (vs s)) (λ s l. view-means P s (vs s) .1 (k .skids-intact s l)))),
 )

@@ -7,6 +7,7 @@ use lib.Dec.{eqb, ltb}
 use Rattle.base.specs.Below.{allBelow}
 use Rattle.plant.specs.declared.Plant.{Plant}
 use Rattle.plant.specs.Plant.{levelsOf, groupOf, needs, mayRun}
+use Rattle.plant.specs.Checks.{Sound, plantRefusal}
 use Rattle.choice.specs.Choice.{unset}
 use Rattle.rules.specs.Rules.{View}
 
@@ -27,8 +28,16 @@ module _ (P : Plant) where
   unfoldable pub intactView : ℕ → View → Bool
   intactView s w = allBelow (λ t. allBelow (λ d. levelOk w t d) (P .requirements)) (P .tasks) && (taskOk s w && allBelow (λ g. tankOk w g) (P .groups))
 
+  -- Test 20, of the plant and of what is known of every skid: the plant, read within the counts, keeps 3 and 7 to 12, and each skid's view passes.
+  unfoldable pub intactViews : (ℕ → View) → Bool
+  intactViews vs = eqb (plantRefusal true true P) 0 && allBelow (λ s. intactView s (vs s)) (P .skids)
+
 -- The same in words. proofs/IntactWords has that the test means this.
 pub record IntactView (P : Plant) (s : ℕ) (w : View) : Type 0 where
   pub levels-known : (t d : ℕ) → t < P .tasks → d < P .requirements → (w .level t d ≡ unset) ⊎ (w .level t d < levelsOf P d)
   pub task-allowed : (w .running ≡ unset) ⊎ ((w .running < P .tasks) × (mayRun P s (w .running) ≡ true))
   pub tanks-of-group : (g : ℕ) → g < P .groups → (w .running ≡ unset → ⊥) → needs P (w .running) g ≡ true → (w .chosen g < P .tanks) × (groupOf P (w .chosen g) ≡ g)
+
+pub record IntactViews (P : Plant) (vs : ℕ → View) : Type 0 where
+  pub plant-sound : Sound P
+  pub skids-intact : (s : ℕ) → s < P .skids → IntactView P s (vs s)
