@@ -15,7 +15,7 @@ use Rattle.plant.specs.Checks.{plantRefusal, Sound}
 use Rattle.plant.proofs.Sound.{sound-law}
 use Rattle.rules.specs.declared.Monitor.{Monitor}
 use Rattle.rules.specs.Rules.{Call, answer}
-use Rattle.rules.specs.Record.{fresh, viewOf, intact, stepped}
+use Rattle.rules.specs.Record.{fresh, viewOf, intact, stepped, recordOf}
 use Rattle.rules.specs.Run.{runs, ends, TestedOnce}
 use Rattle.rules.proofs.Agree.{fresh-agree, intact-true}
 use Rattle.rules.proofs.IntactKept.{tested-once}
@@ -88,7 +88,7 @@ module _ (P : Plant) (q : plantRefusal true true P ≡ 0) where
         ∙ ap (overlay out₀ 0) (sym (ap (runs (fresh P)) (calls-more bytes i) ∙ runs-more (callsOf bytes i) (fresh P) (callAt bytes i)))
 
 -- before the first request
-pub first-record : (P : Plant) (bytes : List ℕ) → record { plant = P; levels = replicate 1024 255; running = replicate 8 255; chosen = replicate 64 255 } ≡ ends (fresh P) (callsOf bytes 0)
+pub first-record : (P : Plant) (bytes : List ℕ) → recordOf P (replicate 1024 255) (replicate 8 255) (replicate 64 255) ≡ ends (fresh P) (callsOf bytes 0)
 unfolding ends callsOf fresh
 first-record P bytes = refl
 

@@ -21,7 +21,7 @@ use Rattle.choice.proofs.Choice.{choice-is, choice-none}
 use Rattle.choice.proofs.Search.{search-choice}
 use Rattle.rules.specs.declared.Monitor.{Monitor}
 use Rattle.rules.specs.Rules.{set, start, stop, gate, View, blankAt, blank, lacking, holds, conditions, refusal, granted, answer, pickFor}
-use Rattle.rules.specs.Record.{viewOf, levelAt, chosenAt, fillFrom, changed, stepped, intact}
+use Rattle.rules.specs.Record.{viewOf, levelAt, chosenAt, fillFrom, changed, stepped, intact, withLevels, withTask}
 use Rattle.choice.specs.Table.{groupChoice}
 use Rattle.calls.specs.Work.{needsIn, setNumber, setLevels, heldIn, gateAnswer, foundIn, blankIn, pickIn, rowIn, lackingIn, startRow, startNumber, getRow, stopNumber, stopRunning, stopChosen}
 use Rattle.rules.proofs.Accepted.{start-ok}
@@ -60,7 +60,7 @@ module _ (m : Monitor) (i : intact (m .plant) m ≡ true) where
   unfolding answer granted refusal conditions
   set-answer s t d v = sym (number-answer (setNumber (P .sizes) (P .lattice) (P .skids) (P .tasks) (P .requirements) s t d v))
 
-  pub set-record : (s t d v : ℕ) → record { plant = P; levels = setLevels (setNumber (P .sizes) (P .lattice) (P .skids) (P .tasks) (P .requirements) s t d v) (m .levels) s t d v; running = m .running; chosen = m .chosen } ≡ stepped P m (set s t d v)
+  pub set-record : (s t d v : ℕ) → withLevels m (setLevels (setNumber (P .sizes) (P .lattice) (P .skids) (P .tasks) (P .requirements) s t d v) (m .levels) s t d v) ≡ stepped P m (set s t d v)
   unfolding stepped changed refusal conditions
   set-record s t d v = split (eqb (setNumber (P .sizes) (P .lattice) (P .skids) (P .tasks) (P .requirements) s t d v) 0) (λ h. rw h) (λ h. rw h)
 
@@ -69,10 +69,10 @@ module _ (m : Monitor) (i : intact (m .plant) m ≡ true) where
   unfolding answer granted refusal conditions
   stop-answer s = sym (number-answer (stopNumber (P .skids) s))
 
-  pub stop-record : (s : ℕ) → record { plant = P; levels = m .levels; running = stopRunning (P .skids) s (m .running); chosen = stopChosen (P .skids) s (m .chosen) } ≡ stepped P m (stop s)
+  pub stop-record : (s : ℕ) → withTask m (stopRunning (P .skids) s (m .running)) (stopChosen (P .skids) s (m .chosen)) ≡ stepped P m (stop s)
   unfolding stepped changed refusal conditions
   stop-record s = split (leb (P .skids) s) (λ h. rw h)
-      (λ h. rw h (ap (λ (l : List ℕ). record { plant = P; levels = m .levels; running = ListN.set (m .running) s unset; chosen = l })
+      (λ h. rw h (ap (λ (l : List ℕ). withTask m (ListN.set (m .running) s unset) l)
       (row-same (m .chosen) (s * 8) (getRow (replicate 8 255)) (λ g. unset) 8 (λ g l. getD-replicate 8 g 255 0 l))))
 
   -- gate
@@ -169,15 +169,12 @@ module _ (m : Monitor) (i : intact (m .plant) m ≡ true) where
     accepted-in : refusal P vs (start s t) ≡ 0 → (s < P .skids) × (t < P .tasks)
     accepted-in z = let k = start-ok P vs s t z in (k .skid, k .task)
 
-    pub start-record : record {
-      plant = P;
-      levels = m .levels;
-      running = cond (eqb number 0) (ListN.set (m .running) s t) (m .running);
-      chosen = cond (eqb number 0) (fillFrom (m .chosen) (s * 8) (getRow (startRow (P .sets) (P .group) (P .level) (P .lattice) (P .requirement) (P .rights) (P .may) (m .levels) (m .running) (m .chosen) (P .skids) (P .tasks) (P .groups) (P .tanks) s t)) 8) (m .chosen);
-    } ≡ stepped P m (start s t)
+    pub start-record : withTask m (cond (eqb number 0) (ListN.set (m .running) s t) (m .running))
+        (cond (eqb number 0) (fillFrom (m .chosen) (s * 8) (getRow (startRow (P .sets) (P .group) (P .level) (P .lattice) (P .requirement) (P .rights) (P .may) (m .levels) (m .running) (m .chosen) (P .skids) (P .tasks) (P .groups) (P .tanks) s t)) 8) (m .chosen))
+        ≡ stepped P m (start s t)
     unfolding stepped changed row wish
     start-record = rw start-number (split (eqb (refusal P vs (start s t)) 0)
         (λ h. let k = accepted-in (eqb-true _ _ h) in
-        rw h (ap (λ (l : List ℕ). record { plant = P; levels = m .levels; running = ListN.set (m .running) s t; chosen = l })
+        rw h (ap (λ (l : List ℕ). withTask m (ListN.set (m .running) s t) l)
         (row-same (m .chosen) (s * 8) (getRow (row s t (k .0) (k .1))) (pickFor P t ((vs s) .level t)) 8 (row-is s t (k .0) (k .1)))))
         (λ h. rw h))

@@ -8,7 +8,7 @@ use borrow.Author.Tests.{eqb-true}
 use Rattle.base.proofs.Logic.{split}
 use Rattle.rules.specs.declared.Monitor.{Monitor}
 use Rattle.rules.specs.Rules.{conditions, refusal, granted, answer}
-use Rattle.rules.specs.Record.{viewOf, intact, stepped}
+use Rattle.rules.specs.Record.{viewOf, intact, stepped, recordOf}
 use Rattle.calls.specs.Work.{callBy, Lent, Turned}
 use Rattle.calls.proofs.Ready.{lattices-there, links-there, groups-counted, levels-there, tasks-known, wishes-known}
 use Rattle.calls.proofs.Meet.{set-answer, set-record, start-answer, start-record, stop-answer, stop-record, gate-answer, gate-record}
@@ -33,7 +33,7 @@ module _ (m : Monitor) (i : intact (m .plant) m ≡ true) (kind a b c d : ℕ) {
       (λ f. split (eqb kind 2) (λ g. rw (e, f, g) (stop-answer m i a))
       (λ g. split (eqb kind 3) (λ k. rw (e, f, g, k) (gate-answer m i a b c)) (λ k. rw (e, f, g, k)))))
 
-  pub turned-record : record { plant = m .plant; levels = levels; running = running; chosen = chosen } ≡ stepped (m .plant) m (callBy kind a b c d)
+  pub turned-record : recordOf (m .plant) levels running chosen ≡ stepped (m .plant) m (callBy kind a b c d)
   unfolding stepped refusal conditions
   turned-record = rw (h .sets-levels, h .runs, h .chooses)
       (split (eqb kind 0) (λ e. rw (eqb-true kind 0 e) (set-record m i a b c d))

@@ -10,6 +10,7 @@ use Rattle.reader.specs.Reading.{plantOf}
 use Rattle.rules.specs.declared.Monitor.{Monitor}
 use Rattle.rules.specs.Rules.{Call, set, start, stop, gate}
 use Rattle.requests.specs.declared.Request.{Request}
+use Rattle.rules.specs.Record.{recordOf}
 
 abbrev pub latticeOf : List ℕ → Lattice
 latticeOf sets = record { n = length sets; sets = sets ++ replicate (16 - length sets) 0 }
@@ -186,39 +187,19 @@ narrowRequests =
 
 -- the session's fresh record with other changing parts, each given by a place and a number
 unfoldable pub record20 : ℕ → ℕ → ℕ → ℕ → ℕ → ℕ → Monitor
-record20 level v skid task at tank = record {
-  plant = plantOf session;
-  levels = ListN.set (replicate 1024 255) level v;
-  running = ListN.set (replicate 8 255) skid task;
-  chosen = ListN.set (ListN.set (replicate 64 255) 1 2) at tank;
-}
+record20 level v skid task at tank = recordOf (plantOf session) (ListN.set (replicate 1024 255) level v) (ListN.set (replicate 8 255) skid task) (ListN.set (ListN.set (replicate 64 255) 1 2) at tank)
 
 -- a record over the plant of a file, with a level, a skid's running task and a chosen tank, each given by a place and a number
 unfoldable pub parts : List ℕ → ℕ → ℕ → ℕ → ℕ → ℕ → ℕ → Monitor
-parts file level v skid task at tank = record {
-  plant = plantOf file;
-  levels = ListN.set (replicate 1024 255) level v;
-  running = ListN.set (replicate 8 255) skid task;
-  chosen = ListN.set (replicate 64 255) at tank;
-}
+parts file level v skid task at tank = recordOf (plantOf file) (ListN.set (replicate 1024 255) level v) (ListN.set (replicate 8 255) skid task) (ListN.set (replicate 64 255) at tank)
 
 -- the session's plant with a level for task 1 of skid 0, a task that the skid runs, and old tanks everywhere: tank 1 for its group 0, and else 7
 unfoldable pub oldTanks : ℕ → Monitor
-oldTanks task = record {
-  plant = plantOf session;
-  levels = ListN.set (replicate 1024 255) 8 0;
-  running = ListN.set (replicate 8 255) 0 task;
-  chosen = ListN.set (replicate 64 7) 0 1;
-}
+oldTanks task = recordOf (plantOf session) (ListN.set (replicate 1024 255) 8 0) (ListN.set (replicate 8 255) 0 task) (ListN.set (replicate 64 7) 0 1)
 
 -- a record over the plant of a file: the first levels, and of skid 1 the running task and the tanks chosen from groups 0 and 1
 unfoldable pub skid1 : List ℕ → List ℕ → ℕ → ℕ → ℕ → Monitor
-skid1 file levels task tank0 tank1 = record {
-  plant = plantOf file;
-  levels = levels ++ replicate (1024 - length levels) 255;
-  running = 255 ∷ task ∷ replicate 6 255;
-  chosen = replicate 8 255 ++ (tank0 ∷ tank1 ∷ replicate 54 255);
-}
+skid1 file levels task tank0 tank1 = recordOf (plantOf file) (levels ++ replicate (1024 - length levels) 255) (255 ∷ task ∷ replicate 6 255) (replicate 8 255 ++ (tank0 ∷ tank1 ∷ replicate 54 255))
 
 -- the session's plant with entries of every kind past the counts, which are free; s in a lattice's set from n on, and r in a task's rights on a
 -- group past the count, which are not

@@ -2,6 +2,7 @@
 use lib.ListN.{replicate}
 use Rattle.plant.specs.Plant.{noPlant}
 use Rattle.rules.specs.declared.Monitor.{Monitor}
+use Rattle.rules.specs.Record.{recordOf}
 
 abbrev pub zeroMonitor : Monitor
-zeroMonitor = record { plant = noPlant; levels = replicate 1024 0; running = replicate 8 0; chosen = replicate 64 0 }
+zeroMonitor = recordOf noPlant (replicate 1024 0) (replicate 8 0) (replicate 64 0)

@@ -13,7 +13,7 @@ use Rattle.plant.specs.Checks.{plantRefusal, Sound}
 use Rattle.plant.proofs.Sound.{sound-law}
 use Rattle.rules.specs.declared.Monitor.{Monitor}
 use Rattle.rules.specs.Rules.{Call, View}
-use Rattle.rules.specs.Record.{fresh, viewOf, intact, final}
+use Rattle.rules.specs.Record.{fresh, viewOf, intact, final, recordOf}
 use Rattle.rules.specs.Run.{runs, ends}
 use Rattle.rules.specs.History.{past, dues, history}
 use Rattle.rules.proofs.Agree.{fresh-agree, list-agree, list-replies}
@@ -45,12 +45,12 @@ module _ (P : Plant) (q : plantRefusal true true P ≡ 0) (cs : List Call) where
 
 -- n requests were served, and these are the changing parts after them
 module _ (P : Plant) (q : plantRefusal true true P ≡ 0) (bytes : List ℕ) (n : ℕ) {levels running chosen : List ℕ}
-    (e : record { plant = P; levels = levels; running = running; chosen = chosen } ≡ ends (fresh P) (callsOf bytes n)) where
+    (e : recordOf P levels running chosen ≡ ends (fresh P) (callsOf bytes n)) where
   abbrev cs : List Call
   cs = callsOf bytes n
 
   abbrev m : Monitor
-  m = record { plant = P; levels = levels; running = running; chosen = chosen }
+  m = recordOf P levels running chosen
 
   i : intact P m ≡ true
   i = still-intact P q bytes n e

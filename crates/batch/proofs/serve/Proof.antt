@@ -7,7 +7,7 @@ use Rattle.base.specs.Overlay.{overlay}
 use Rattle.plant.proofs.Sound.{sound-law}
 use Rattle.plant.proofs.Valid.{valid}
 use Rattle.rules.specs.declared.Monitor.{Monitor}
-use Rattle.rules.specs.Record.{fresh}
+use Rattle.rules.specs.Record.{fresh, recordOf}
 use Rattle.rules.specs.Run.{runs, ends}
 use Rattle.calls.proofs.Ready.{plant-valid}
 use Rattle.calls.specs.Work.{Remembered, Granted}
@@ -21,7 +21,7 @@ use Rattle.batch.proofs.serve.Statement.{statement}
 use Rattle.batch.proofs.serve.Tie as tie
 
 abbrev Inv-loop : tie.InvT-loop
-Inv-loop bytes n out₀ p levels₀ running₀ chosen₀ made₀ needs₀ granted₀ i₀ out levels running chosen made needs granted i = (i ≤ n) × ((length out ≡ length out₀) × ((record { plant = p; levels = levels; running = running; chosen = chosen } ≡ ends (fresh p) (callsOf bytes i)) × ((out ≡ overlay out₀ 0 (runs (fresh p) (callsOf bytes i))) × (Remembered (p .sets) (p .group) (p .level) (p .lattice) (p .requirement) (p .rights) (p .groups) (p .tanks) made needs × Granted (p .rights) running (p .skids) granted))))
+Inv-loop bytes n out₀ p levels₀ running₀ chosen₀ made₀ needs₀ granted₀ i₀ out levels running chosen made needs granted i = (i ≤ n) × ((length out ≡ length out₀) × ((recordOf p levels running chosen ≡ ends (fresh p) (callsOf bytes i)) × ((out ≡ overlay out₀ 0 (runs (fresh p) (callsOf bytes i))) × (Remembered (p .sets) (p .group) (p .level) (p .lattice) (p .requirement) (p .rights) (p .groups) (p .tanks) made needs × Granted (p .rights) running (p .skids) granted))))
 
 abbrev μ-loop : tie.MeasureT-loop
 μ-loop bytes n out₀ p levels₀ running₀ chosen₀ made₀ needs₀ granted₀ i₀ out levels running chosen made needs granted i = n - i
@@ -34,7 +34,7 @@ turn-requires c κs =
     let l = c .before .before .before .before .before .before .before .before .before .before .before .before .before .before .before .before .before in
     let s = l .before .before .before in
     let p = s .args .t1 in
-    let m : Monitor = record { plant = p; levels = l .loop .levels; running = l .loop .running; chosen = l .loop .chosen } in
+    let m : Monitor = recordOf p (l .loop .levels) (l .loop .running) (l .loop .chosen) in
     let i = still-intact p (s .pre .0) (s .args .bytes .now) (l .loop .i) (l .loop .inv .1 .1 .0) in
     let f = plant-valid m i .counts in
     ((f .skids-fit, (f .tasks-fit, (f .requirements-fit, (f .groups-fit, f .tanks-fit)))), (lent m i, l .loop .inv .1 .1 .1 .1))
@@ -66,7 +66,7 @@ loop-again c =
     let v = l .loop .inv in
     let bytes = s .args .bytes .now in
     let k : l .loop .i < s .args .n = t .loop-test .taken in
-    let m : Monitor = record { plant = p; levels = l .loop .levels; running = l .loop .running; chosen = l .loop .chosen } in
+    let m : Monitor = recordOf p (l .loop .levels) (l .loop .running) (l .loop .chosen) in
     let i = still-intact p (s .pre .0) bytes (l .loop .i) (v .1 .1 .0) in
     let h = rw (c .before .before .before .before .before .before .before .before .before .before .before .before .before .before .before .before .request-at .ensures) at (c .turn .ensures .0) in
     let b : l .loop .i < length (s .args .out .now) = omega (arith, s .pre .1 .1) in (
