@@ -7,7 +7,7 @@ ghost use Rattle.base.specs.Overlay.{overlay};
 ghost use Rattle.layout.specs.Header.{sectionPlace};
 ghost use Rattle.plant.specs.Checks.{plantRefusal};
 ghost use Rattle.batch.specs.Requests.{callsOf};
-ghost use Rattle.panel.specs.Batch.{refusalBy, outcome, batchRefusal, batchOut};
+ghost use Rattle.outcome.specs.Batch.{refusalBy, outcome, batchRefusal, batchOut};
 use batch::serve;
 use held::write_held;
 use layout::Place;

@@ -2,8 +2,8 @@
 use mathlib.Core.Path.{sym, ap, _∙_}
 use Rattle.base.specs.Overlay.{overlay}
 use Rattle.reader.specs.declared.Reading.{Reading}
-use Rattle.panel.specs.Batch.{outcome, batchCalls}
-use Rattle.panel.proofs.Refused.{unwritten, written, refusal-by, accepts, plant-passes}
+use Rattle.outcome.specs.Batch.{outcome, batchCalls}
+use Rattle.outcome.proofs.Refused.{unwritten, written, refusal-by, accepts, plant-passes}
 use borrow.Author.Needs.{needs}
 use Rattle.panel.proofs.permits_batch.Statement.{statement}
 use Rattle.panel.proofs.permits_batch.Tie as tie

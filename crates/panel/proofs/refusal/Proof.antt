@@ -1,5 +1,5 @@
 -- `panel::refusal` meets its contract: each test in its order. Assumes nothing.
-use Rattle.panel.proofs.Refused.{by-opening, by-requests, by-room, by-none}
+use Rattle.outcome.proofs.Refused.{by-opening, by-requests, by-room, by-none}
 use borrow.Author.Needs.{needs}
 use Rattle.panel.proofs.refusal.Statement.{statement}
 use Rattle.panel.proofs.refusal.Tie as tie

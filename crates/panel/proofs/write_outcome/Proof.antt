@@ -1,5 +1,5 @@
 -- `panel::write_outcome` meets its contract: the answers, and behind them the list of rights. Assumes nothing.
-use Rattle.panel.proofs.Outcome.{rights-known, room-left, outcome-out}
+use Rattle.outcome.proofs.Outcome.{rights-known, room-left, outcome-out}
 use borrow.Author.Needs.{needs}
 use Rattle.panel.proofs.write_outcome.Statement.{statement}
 use Rattle.panel.proofs.write_outcome.Tie as tie

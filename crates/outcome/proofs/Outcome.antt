@@ -22,7 +22,7 @@ use Rattle.batch.proofs.Served.{once, still-intact, runs-length, calls-length}
 use Rattle.held.specs.Held.{HeldRight, rightsHeld, listing}
 use Rattle.held.specs.Work.{Known, listIn}
 use Rattle.held.proofs.Listed.{known, written-listing}
-use Rattle.panel.specs.Batch.{outcome}
+use Rattle.outcome.specs.Batch.{outcome}
 
 module _ (P : Plant) (q : plantRefusal true true P ≡ 0) (cs : List Call) where
   sound : Sound P

@@ -17,7 +17,7 @@ use Rattle.reader.specs.Reading.{openingChecks, openingRefusal, readingOf}
 use Rattle.plant.specs.Checks.{plantRefusal}
 use Rattle.plant.proofs.Sound.{sound-law}
 use Rattle.reader.proofs.Opening.{opens}
-use Rattle.panel.specs.Batch.{sizeChecks, requestChecks, refusalBy, batchRefusal, outcome, batchCalls, batchOut}
+use Rattle.outcome.specs.Batch.{sizeChecks, requestChecks, refusalBy, batchRefusal, outcome, batchCalls, batchOut}
 
 module _ (plant requests : List ℕ) where
   -- opening decides first

@@ -26,10 +26,10 @@ use Rattle.rules.proofs.Agree.{fresh-agree, list-agree}
 use Rattle.batch.proofs.Served.{runs-length, calls-length, calls-at}
 use Rattle.held.specs.Held.{HeldRight, Lists, rightsHeld, rightBytes, listing}
 use Rattle.held.proofs.Listed.{HeldIn, lists-same, rights-listed, bytes-length, bytes-at, held-at-most}
-use Rattle.panel.specs.Batch.{requestCount, refusalBy, batchRefusal, outcome, batchOut}
-use Rattle.panel.specs.Served.{Admits, none, P, calls, held, Served, Batch}
-use Rattle.panel.proofs.Outcome.{same-answers, same-rights}
-use Rattle.panel.proofs.Refused.{refusal-is, unwritten, by-opening, by-requests, by-room, by-none, accepts, plant-passes}
+use Rattle.outcome.specs.Batch.{requestCount, refusalBy, batchRefusal, outcome, batchOut}
+use Rattle.outcome.specs.Served.{Admits, none, P, calls, held, Served, Batch}
+use Rattle.outcome.proofs.Outcome.{same-answers, same-rights}
+use Rattle.outcome.proofs.Refused.{refusal-is, unwritten, by-opening, by-requests, by-room, by-none, accepts, plant-passes}
 
 -- The rights at the end of a list from the fresh monitor are those that its history gives.
 module _ (P : Plant) (q : plantRefusal true true P ≡ 0) (W : Sound P) (cs : List Call) where

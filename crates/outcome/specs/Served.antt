@@ -15,7 +15,7 @@ use Rattle.rules.specs.Rights.{Gives}
 use Rattle.rules.specs.Demand.{Demand3}
 use Rattle.batch.specs.Requests.{callAt}
 use Rattle.held.specs.Held.{HeldRight, Lists, rightsHeld}
-use Rattle.panel.specs.Batch.{requestCount, batchRefusal, batchCalls, batchOut}
+use Rattle.outcome.specs.Batch.{requestCount, batchRefusal, batchCalls, batchOut}
 
 -- what an accepted batch keeps: opening's rules, whole requests, room
 pub record Admits (plant requests out : List ℕ) : Type 0 where

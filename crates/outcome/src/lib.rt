@@ -1,0 +1,1 @@
+// What a batch call returns and writes: definitions and laws.
