@@ -21,8 +21,8 @@ use Rattle.rules.specs.History.{past, dues, history, note}
 use Rattle.batch.proofs.Served.{calls-length}
 use Rattle.held.specs.Held.{HeldRight, rightsHeld, rightBytes}
 use Rattle.held.proofs.Listed.{bytes-length}
-use Rattle.panel.specs.Batch.{requestCount, batchRefusal, batchCalls, outcome, batchOut}
-use Rattle.panel.proofs.Refused.{refusal-is}
+use Rattle.outcome.specs.Batch.{requestCount, batchRefusal, batchCalls, outcome, batchOut}
+use Rattle.outcome.proofs.Refused.{refusal-is}
 use Rattle.printing.specs.Text.{answerLineAt, answerLines, rightLineAt, rightLines, heldLine, heldLines, outcomeLines}
 use Rattle.printing.specs.Printed.{batchLines}
 use Rattle.printing.proofs.Outcome.{refused-lines, accepted-lines}

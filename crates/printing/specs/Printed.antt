@@ -7,7 +7,7 @@ use lib.ListN.{length, take, drop}
 use Rattle.base.specs.Overlay.{Wrote}
 use Rattle.layout.specs.Layout.{wordAt, headerBytes, lengthAt}
 use Rattle.reader.specs.Reading.{readingOf}
-use Rattle.panel.specs.Batch.{requestCount, batchRefusal, batchCalls, outcome}
+use Rattle.outcome.specs.Batch.{requestCount, batchRefusal, batchCalls, outcome}
 use Rattle.printing.specs.Text.{codes, line, refusalLine, outcomeLines}
 
 -- the most bytes that the program takes
