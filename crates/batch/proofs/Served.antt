@@ -1,6 +1,6 @@
 -- A loop over request bytes makes the run of their calls from the fresh monitor. Assumes nothing.
 use mathlib.Core.Path.{_≡_, refl, sym, ap, subst, _∙_}
-use Prim.Native.Nat.{ℕ, zero, suc, _+_, _<_}
+use Prim.Native.Nat.{ℕ, zero, suc, _+_, _<_, _≤_}
 use native.Mathlib.Numerals.{add-one}
 use native.Mathlib.Omega.{arith}
 use mathlib.Core.Bool.{true}
@@ -19,6 +19,8 @@ use Rattle.rules.specs.Record.{fresh, viewOf, intact, stepped, recordOf}
 use Rattle.rules.specs.Run.{runs, ends, TestedOnce}
 use Rattle.rules.proofs.Agree.{fresh-agree, intact-true}
 use Rattle.rules.proofs.IntactKept.{tested-once}
+use Rattle.calls.specs.Lent.{Tables}
+use Rattle.calls.specs.Work.{Granted}
 use Rattle.batch.specs.Requests.{callAt, callsOf}
 
 -- one call more at the end of a list
@@ -86,6 +88,15 @@ module _ (P : Plant) (q : plantRefusal true true P ≡ 0) where
         ∙ overlay-more out₀ 0 (runs (fresh P) (callsOf bytes i)) v (omega (arith, place))
         ∙ ap (λ (x : ℕ). overlay out₀ 0 (runs (fresh P) (callsOf bytes i) ++ (x ∷ []))) (w ∙ ap (λ (x : Monitor). answer (x .plant) (viewOf (x .plant) x) (callAt bytes i)) e)
         ∙ ap (overlay out₀ 0) (sym (ap (runs (fresh P)) (calls-more bytes i) ∙ runs-more (callsOf bytes i) (fresh P) (callAt bytes i)))
+
+-- what the loop knows before request i: the record and the answers so far are the run's, and what is kept beside the record is kept
+pub record Before (P : Plant) (bytes : List ℕ) (n : ℕ) (out₀ : List ℕ) (out levels running chosen made needs granted : List ℕ) (i : ℕ) : Type 0 where
+  pub at-most : i ≤ n
+  pub size : length out ≡ length out₀
+  pub state : recordOf P levels running chosen ≡ ends (fresh P) (callsOf bytes i)
+  pub answers : out ≡ overlay out₀ 0 (runs (fresh P) (callsOf bytes i))
+  pub tables : Tables P made needs
+  pub grants : Granted (P .rights) running (P .skids) granted
 
 -- before the first request
 pub first-record : (P : Plant) (bytes : List ℕ) → recordOf P (replicate 1024 255) (replicate 8 255) (replicate 64 255) ≡ ends (fresh P) (callsOf bytes 0)

@@ -8,6 +8,7 @@ ghost use Rattle.plant.specs.Checks.{plantRefusal};
 ghost use Rattle.rules.specs.Record.{fresh};
 ghost use Rattle.rules.specs.Run.{runs, ends};
 ghost use Rattle.batch.specs.Requests.{requestAt, callsOf};
+use calls::Counts;
 use plant::Plant;
 use turns::turn;
 
@@ -44,15 +45,25 @@ pub fn serve(p: Plant, bytes: &[u8], n: usize, out: &mut [u8]) -> Parts
     let mut made = [254u8; 128];
     let mut needs = [0u16; 16];
     let mut granted = [0u8; 64];
+    let counts = Counts {
+        lattices: p.lattices,
+        requirements: p.requirements,
+        groups: p.groups,
+        tanks: p.tanks,
+        tasks: p.tasks,
+        skids: p.skids,
+    };
     for i in 0..n {
         let r = request_at(bytes, i);
         out[i] = turn(
+            counts,
             &p.sizes,
             &p.sets,
             &p.lattice,
             &p.requirement,
             &p.group,
             &p.level,
+            &p.names,
             &p.rights,
             &p.may,
             &mut levels,
@@ -61,11 +72,6 @@ pub fn serve(p: Plant, bytes: &[u8], n: usize, out: &mut [u8]) -> Parts
             &mut made,
             &mut needs,
             &mut granted,
-            p.skids,
-            p.tasks,
-            p.requirements,
-            p.groups,
-            p.tanks,
             r[0],
             r[1],
             r[2],

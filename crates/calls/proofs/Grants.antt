@@ -6,18 +6,23 @@ use native.Mathlib.Decide.{ℕ-discrete}
 use native.Mathlib.Omega.{arith}
 use mathlib.Core.Bool.{Bool, true, false, _&&_, and-false}
 use mathlib.Core.List.{List}
-use lib.Dec.{eqb, leb}
+use lib.Dec.{eqb}
 use lib.ListN.{getD, length, set, replicate, getD-replicate, length-replicate, length-set}
 use lib.Seq.{getD-set-same, getD-set-other}
-use borrow.Author.Tests.{eq-eqb, ne-eqb, leb-false}
+use borrow.Author.Tests.{eqb-true, eq-eqb, ne-eqb}
 use Rattle.base.specs.Below.{allBelow}
 use Rattle.base.proofs.Logic.{split}
 use Rattle.plant.specs.Checks.{entryBelow}
 use Rattle.plant.specs.Right.{hasRight}
 use Rattle.plant.proofs.Links.{entry-at}
-use Rattle.rules.specs.Record.{chosenAt, fillFrom}
+use Rattle.rules.specs.declared.Monitor.{Monitor}
+use Rattle.rules.specs.Rules.{Call, start, stop, skidOf, refusal, answer}
+use Rattle.rules.specs.Rules as rules
+use Rattle.rules.specs.Record.{viewOf, changed, stepped, chosenAt, fillFrom}
+use Rattle.rules.proofs.Accepted.{start-ok, stop-ok}
 use Rattle.rules.proofs.Flat.{length-fillFrom, fillFrom-in, fillFrom-out}
-use Rattle.calls.specs.Work.{grantIn, Granted, rightsIn, getRow, stopRunning, stopGranted, heldIn, grantedIn, gateAnswer, gateBy}
+use Rattle.calls.specs.Lent.{Does}
+use Rattle.calls.specs.Work.{grantIn, Granted, rightsIn, getRow, heldIn, grantedIn}
 
 module _ (rights running : List ℕ) where
   -- a skid's row is its task's rights, or empty
@@ -26,42 +31,6 @@ module _ (rights running : List ℕ) where
 
   of-none : (s g : ℕ) → getD running s 0 ≡ 255 → 0 ≡ grantIn rights running s g
   of-none s g e = sym (rw (eq-eqb (getD running s 0) 255 e))
-
-  -- the rows of the skids below n are made, those of the others are empty
-  pub record MadeBelow (n : ℕ) (granted : List ℕ) : Type 0 where
-    pub size : length granted ≡ 64
-    pub made : (s g : ℕ) → s < n → g < 8 → getD granted (chosenAt s g) 0 ≡ grantIn rights running s g
-    pub rest : (s g : ℕ) → n ≤ s → s < 8 → g < 8 → getD granted (chosenAt s g) 0 ≡ 0
-
-  pub rows-none : MadeBelow 0 (replicate 64 0)
-  rows-none = record {
-    size = length-replicate {A = ℕ} 64 0;
-    made = λ s g l h. absurd (omega arith);
-    rest = λ s g a b h. getD-replicate 64 (chosenAt s g) 0 0 (omega arith);
-  }
-
-  pub idle-next : {n : ℕ} {granted : List ℕ} → n < 8 → MadeBelow n granted → getD running n 0 ≡ 255 → MadeBelow (n + 1) granted
-  idle-next {n} {granted} l m e = record {
-    size = m .size;
-    made = λ s g a h. elim (ℕ-discrete s n) [
-      | yes z ↦ m .rest s g (omega arith) (omega arith) h ∙ of-none s g (ap (λ (k : ℕ). getD running k 0) z ∙ e)
-      | no z ↦ m .made s g (omega arith) h
-    ];
-    rest = λ s g a b h. m .rest s g (omega arith) b h;
-  }
-
-  pub task-next : {n : ℕ} {granted : List ℕ} → n < 8 → MadeBelow n granted → getD running n 0 ≢ 255 → MadeBelow (n + 1) (fillFrom granted (n * 8) (rightsIn rights (getD running n 0)) 8)
-  task-next {n} {granted} l m e = record {
-    size = length-fillFrom granted (n * 8) (rightsIn rights (getD running n 0)) 8 ∙ m .size;
-    made = λ s g a h. elim (ℕ-discrete s n) [
-      | yes z ↦ rw z (fillFrom-in granted (n * 8) (rightsIn rights (getD running n 0)) 8 g (omega (arith, m .size)) h ∙ of-task n (getD running n 0) refl e g)
-      | no z ↦ fillFrom-out granted (n * 8) (rightsIn rights (getD running n 0)) 8 (chosenAt s g) (λ k b. omega arith) ∙ m .made s g (omega arith) h
-    ];
-    rest = λ s g a b h. fillFrom-out granted (n * 8) (rightsIn rights (getD running n 0)) 8 (chosenAt s g) (λ k d. omega arith) ∙ m .rest s g (omega arith) b h;
-  }
-
-  pub all-made : {n skids : ℕ} {granted : List ℕ} → length running ≡ 8 → skids ≤ n → MadeBelow n granted → Granted rights running skids granted
-  all-made e l m = record { tasks = e; size = m .size; right = λ s g a h. m .made s g (omega arith) h }
 
   -- a skid's task changes, and its row with it
   pub put-row : {skids : ℕ} {granted : List ℕ} (s t : ℕ) (f : ℕ → ℕ) → s < 8 → Granted rights running skids granted
@@ -93,9 +62,41 @@ none-granted rights skids l = record {
   right = λ s g a b. getD-replicate 64 (chosenAt s g) 0 0 (omega arith) ∙ of-none rights (replicate 8 255) s g (getD-replicate 8 s 255 0 (omega arith));
 }
 
--- a stop keeps them, refused or not
-pub stop-granted : (rights running : List ℕ) {skids : ℕ} {granted : List ℕ} (s : ℕ) → skids ≤ 8 → Granted rights running skids granted → Granted rights (stopRunning skids s running) skids (stopGranted skids s granted)
-stop-granted rights running {skids} s l G = split (leb skids s) (λ e. rw e G) (λ e. rw e (none-put rights running s (omega (arith, leb-false skids s e)) G))
+-- The rights are kept by a start and by a stop: where it is accepted the skid's row changes with its task, and else neither does.
+module _ (m : Monitor) {granted : List ℕ} (G : Granted (m .plant .rights) (m .running) (m .plant .skids) granted) where
+  -- a call that is not accepted
+  refused-granted : (c : Call) {r : ℕ} {left : Monitor} → rules.granted (m .plant) (viewOf (m .plant) m (skidOf c)) c ≡ 0 → Does m c r left → r ≢ 0 → Granted (m .plant .rights) (left .running) (m .plant .skids) granted
+  unfolding answer stepped
+  refused-granted c z d n = rw (d .leaves, ne-eqb (refusal (m .plant) (viewOf (m .plant) m) c) 0 (λ e. n (d .answers ∙ rw (e, z)))) G
+
+  pub start-refused : (s t : ℕ) {r : ℕ} {left : Monitor} → Does m (start s t) r left → r ≢ 0 → Granted (m .plant .rights) (left .running) (m .plant .skids) granted
+  unfolding rules.granted
+  start-refused s t = refused-granted (start s t) refl
+
+  pub stop-refused : (s : ℕ) {r : ℕ} {left : Monitor} → Does m (stop s) r left → r ≢ 0 → Granted (m .plant .rights) (left .running) (m .plant .skids) granted
+  unfolding rules.granted
+  stop-refused s = refused-granted (stop s) refl
+
+  -- the call is accepted where its answer is 0
+  zero : (c : Call) {r : ℕ} {left : Monitor} → Does m c r left → r ≡ 0 → refusal (m .plant) (viewOf (m .plant) m) c ≡ 0
+  unfolding answer
+  zero c d e = split (eqb (refusal (m .plant) (viewOf (m .plant) m) c) 0) (λ h. eqb-true _ _ h) (λ h. let f = sym (d .answers) ∙ e in rw h at f)
+
+  pub start-items : (s t : ℕ) → m .plant .skids ≤ 8 → m .plant .tasks ≤ 16 → {r : ℕ} {left : Monitor} → Does m (start s t) r left → r ≡ 0 → (s < 8) × (t < 16)
+  start-items s t a b d e = let k = start-ok (m .plant) (viewOf (m .plant) m) s t (zero (start s t) d e) in (omega (arith, k .skid), omega (arith, k .task))
+
+  pub stop-item : (s : ℕ) → m .plant .skids ≤ 8 → {r : ℕ} {left : Monitor} → Does m (stop s) r left → r ≡ 0 → s < 8
+  stop-item s a d e = omega (arith, stop-ok (m .plant) (viewOf (m .plant) m) s (zero (stop s) d e))
+
+  pub start-granted : (s t : ℕ) → (s < 8) × (t < 16) → {r : ℕ} {left : Monitor} → Does m (start s t) r left → r ≡ 0
+      → Granted (m .plant .rights) (left .running) (m .plant .skids) (fillFrom granted (s * 8) (rightsIn (m .plant .rights) t) 8)
+  unfolding stepped changed
+  start-granted s t l d e = rw (d .leaves, zero (start s t) d e) (task-put (m .plant .rights) (m .running) s (l .0) G t (l .1))
+
+  pub stop-granted : (s : ℕ) → s < 8 → {r : ℕ} {left : Monitor} → Does m (stop s) r left → r ≡ 0
+      → Granted (m .plant .rights) (left .running) (m .plant .skids) (fillFrom granted (s * 8) (getRow (replicate 8 0)) 8)
+  unfolding stepped changed
+  stop-granted s l d e = rw (d .leaves, zero (stop s) d e) (none-put (m .plant .rights) (m .running) s l G)
 
 and-swap : (a b : Bool) → a && b ≡ b && a
 and-swap true true = refl
@@ -105,10 +106,6 @@ and-swap false false = refl
 
 -- the gate by them is the gate
 module _ (group rights running chosen : List ℕ) {skids : ℕ} {granted : List ℕ} (tanks : ℕ) (G : Granted rights running skids granted) (there : allBelow (entryBelow group 8) tanks ≡ true) where
-  same-held : (s o r : ℕ) → s < skids → o < tanks → grantedIn group granted chosen s o r ≡ heldIn group rights running chosen s o r
+  pub same-held : (s o r : ℕ) → s < skids → o < tanks → grantedIn group granted chosen s o r ≡ heldIn group rights running chosen s o r
   same-held s o r a b = rw (G .right s (getD group o 0) a (entry-at group 8 tanks o there b))
       (split (eqb (getD running s 0) 255) (λ e. rw e (and-false (eqb (getD chosen (chosenAt s (getD group o 0)) 0) o))) (λ e. rw e (and-swap (eqb (getD chosen (chosenAt s (getD group o 0)) 0) o) (hasRight (getD rights (getD running s 0 * 8 + getD group o 0) 0) r))))
-
-  pub gate-by : (s o r : ℕ) → gateBy group granted chosen skids tanks s o r ≡ gateAnswer group rights running chosen skids tanks s o r
-  gate-by s o r = split (leb skids s) (λ e. rw e)
-      (λ e. split (leb tanks o) (λ f. rw (e, f)) (λ f. rw (same-held s o r (leb-false skids s e) (leb-false tanks o f))))

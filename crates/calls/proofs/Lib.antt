@@ -4,7 +4,7 @@ pub mod Made
 pub mod There
 pub mod Grants
 pub mod Groups
-pub mod Early
 pub mod Ready
-pub mod Meet
-pub mod Turns
+pub mod Views
+pub mod Steps
+pub mod Start

@@ -10,28 +10,30 @@ use lib.Dec.{eqb, ltb}
 use lib.ListN.{getD, set, replicate, getD-replicate, length-replicate, length-set}
 use lib.Seq.{getD-set-same, getD-set-other}
 use borrow.Author.Tests.{eqb-false, eq-eqb, ne-eqb, ltb-true, lt-ltb, le-ltb}
-use Rattle.base.specs.Below.{allBelow, anyBelow}
+use Rattle.base.specs.Below.{anyBelow}
 use Rattle.base.specs.Bits.{bit}
 use Rattle.base.proofs.Logic.{split, and-true, or-right}
-use Rattle.base.proofs.Below.{all-yes, all-at, any-no, any-same, any-upto, next-but-own}
+use Rattle.base.proofs.Below.{all-at, any-no, any-same, any-upto, next-but-own}
 use Rattle.base.proofs.Bits.{zero-bit}
 use Rattle.base.proofs.Filled.{fill-over}
-use Rattle.plant.proofs.Links.{entry-at}
-use Rattle.plant.specs.Checks.{entryBelow}
-use Rattle.choice.specs.Table.{linkIn, groupChoice, ChoicesIn}
-use Rattle.calls.specs.Work.{needsIn, madeAt, NeedIn, Needed, Remembered, wishKnown, wishIn, blankIn, lackingIn, pickIn, Reached, RowDone}
+use Rattle.plant.specs.declared.Plant.{Plant}
+use Rattle.choice.specs.Table.{groupChoice}
+use Rattle.rules.specs.declared.Monitor.{Monitor}
+use Rattle.rules.specs.Record.{intact}
+use Rattle.calls.specs.Lent.{Choices, Tables}
+use Rattle.calls.specs.Work.{needsIn, madeAt, NeedIn, Needed, wishKnown, wishIn, blankIn, lackingIn, pickIn, Reached, RowDone}
 use Rattle.calls.proofs.Known.{known}
+use Rattle.calls.proofs.Ready.{plant-valid, wishes-known}
 
-pub none-made : (sets group level lattice requirement rights : List ℕ) (groups tanks : ℕ) → Remembered sets group level lattice requirement rights groups tanks (replicate 128 254) (replicate 16 0)
-none-made sets group level lattice requirement rights groups tanks = record {
+pub none-made : (P : Plant) → Tables P (replicate 128 254) (replicate 16 0)
+none-made P = record {
   table = record { size = length-replicate {A = ℕ} 128 254; right = λ n. absurd (n (getD-replicate {A = ℕ} 128 0 254 0 (omega arith))) };
   tasks = record { size = length-replicate {A = ℕ} 16 0; right = λ t l n. absurd (n (getD-replicate {A = ℕ} 16 t 0 0 l)) };
 }
 
 -- and once it is made
-pub remembered : {sets group level lattice requirement rights : List ℕ} {groups tanks : ℕ} {made needs : List ℕ} → ChoicesIn sets group level lattice requirement groups tanks made → Needed rights groups needs
-    → Remembered sets group level lattice requirement rights groups tanks made needs
-remembered c n = record { table = record { size = c .size; right = λ x. c }; tasks = n }
+pub all-made : {P : Plant} {made needs : List ℕ} → Choices P made → Needed (P .rights) (P .groups) needs → Tables P made needs
+all-made c n = record { table = record { size = c .size; right = λ x. c }; tasks = n }
 
 -- the set of a task, group by group
 module _ (rights : List ℕ) (t : ℕ) where
@@ -60,56 +62,57 @@ need-put rights groups needs t need l n h = record {
   ];
 }
 
--- the requirements of the groups, from their links
-requirements-there : (lattice requirement : List ℕ) (groups : ℕ) → allBelow (linkIn lattice requirement) groups ≡ true → allBelow (entryBelow requirement 8) groups ≡ true
-requirements-there lattice requirement groups h = all-yes groups (entryBelow requirement 8) (λ g l. and-true (ltb (getD requirement g 0) 8) (ltb (getD lattice (getD requirement g 0) 0) 8) (all-at groups (linkIn lattice requirement) h g l) .0)
+-- A start of skid s and task t on a record that passes test 20, where `need` is the set of the task's groups.
+module _ (m : Monitor) (i : intact (m .plant) m ≡ true) (s t need : ℕ) (a : s < m .plant .skids) (b : t < m .plant .tasks) (n : NeedIn (m .plant .rights) t (m .plant .groups) need) where
+  abbrev P : Plant
+  P = m .plant
 
--- the groups of the set are there
-pub reached : (lattice requirement rights levels : List ℕ) (groups s t need : ℕ) → groups ≤ 8 → allBelow (linkIn lattice requirement) groups ≡ true → allBelow (wishKnown requirement levels s t) groups ≡ true
-    → NeedIn rights t groups need → Reached requirement levels s t need
-reached lattice requirement rights levels groups s t need b h w n g e =
-    let l = ltb-true g groups (and-true (ltb g groups) (needsIn rights t g) (sym (n g) ∙ e) .0) in
-    (omega (arith, l), (entry-at requirement 8 groups g (requirements-there lattice requirement groups h) l, all-at groups (wishKnown requirement levels s t) w g l))
-
-module _ (sets group level lattice requirement rights levels : List ℕ) (groups tanks s t need : ℕ) {made : List ℕ} (b : groups ≤ 8)
-    (c : ChoicesIn sets group level lattice requirement groups tanks made) (w : allBelow (wishKnown requirement levels s t) groups ≡ true)
-    (n : NeedIn rights t groups need) where
-  abbrev found : ℕ → ℕ → ℕ
-  found = groupChoice sets group level lattice requirement tanks
+  fits : P .groups ≤ 8
+  fits = plant-valid m i .counts .groups-fit
 
   abbrev wish : ℕ → ℕ
-  wish = wishIn requirement levels s t
+  wish = wishIn (P .requirement) (m .levels) s t
 
   abbrev named : ℕ → Bool
-  named = needsIn rights t
+  named = needsIn (P .rights) t
+
+  -- the groups of the set are there
+  pub reached : Reached (P .requirement) (m .levels) s t need
+  reached g e =
+      let l = ltb-true g (P .groups) (and-true (ltb g (P .groups)) (named g) (sym (n g) ∙ e) .0) in
+      let r = plant-valid m i .req-in g l in
+      (omega (arith, l, fits), (omega (arith, r, plant-valid m i .counts .requirements-fit), all-at (P .groups) (wishKnown (P .requirement) (m .levels) s t) (wishes-known m i s t a b) g l))
 
   -- a test of the groups of the set, and one of the groups on which the task names a right
-  over-groups : (p q : ℕ → Bool) → ((g : ℕ) → g < groups → named g && p g ≡ q g) → anyBelow (λ g. bit need g && p g) 8 ≡ anyBelow q groups
+  over-groups : (p q : ℕ → Bool) → ((g : ℕ) → g < P .groups → named g && p g ≡ q g) → anyBelow (λ g. bit need g && p g) 8 ≡ anyBelow q (P .groups)
   over-groups p q e =
-      any-same 8 (λ g. bit need g && p g) (λ g. ltb g groups && (named g && p g)) (λ g l. ap (λ x. x && p g) (n g) ∙ and-assoc (ltb g groups) (named g) (p g))
-      ∙ any-upto 8 groups (λ g. named g && p g) b
-      ∙ any-same groups (λ g. named g && p g) q e
+      any-same 8 (λ g. bit need g && p g) (λ g. ltb g (P .groups) && (named g && p g)) (λ g l. ap (λ x. x && p g) (n g) ∙ and-assoc (ltb g (P .groups)) (named g) (p g))
+      ∙ any-upto 8 (P .groups) (λ g. named g && p g) fits
+      ∙ any-same (P .groups) (λ g. named g && p g) q e
+
+  abbrev found : ℕ → ℕ → ℕ
+  found = groupChoice (P .sets) (P .group) (P .level) (P .lattice) (P .requirement) (P .tanks)
 
   -- what the table has for a group whose level is set is the choice
-  same-found : (g : ℕ) → g < groups → eqb (wish g) 255 ≡ false → madeAt made g (wish g) ≡ found g (wish g)
-  same-found g l e = c .right g (wish g) l (known (wish g) 16 (all-at groups (wishKnown requirement levels s t) w g l) (eqb-false (wish g) 255 e))
+  same-found : {made : List ℕ} → Choices P made → (g : ℕ) → g < P .groups → eqb (wish g) 255 ≡ false → madeAt made g (wish g) ≡ found g (wish g)
+  same-found h g l e = h .right g (wish g) l (known (wish g) 16 (all-at (P .groups) (wishKnown (P .requirement) (m .levels) s t) (wishes-known m i s t a b) g l) (eqb-false (wish g) 255 e))
 
-  pub by-choice : {number : ℕ} {row : List ℕ} → RowDone (madeAt made) requirement levels s t (bit need) 8 number row → RowDone found requirement levels s t named groups number row
-  by-choice {number} d =
-      let blank = over-groups (λ g. eqb (wish g) 255) (blankIn requirement levels s t named) (λ g l. refl) in
-      split (anyBelow (blankIn requirement levels s t named) groups)
+  pub by-choice : {made : List ℕ} → Choices P made → {number : ℕ} {row : List ℕ} → RowDone (madeAt made) (P .requirement) (m .levels) s t (bit need) 8 number row → RowDone found (P .requirement) (m .levels) s t named (P .groups) number row
+  by-choice {made} h {number} d =
+      let blank = over-groups (λ g. eqb (wish g) 255) (blankIn (P .requirement) (m .levels) s t named) (λ g l. refl) in
+      split (anyBelow (blankIn (P .requirement) (m .levels) s t named) (P .groups))
       (λ z. let e : number ≡ 27 = rw (blank, z) at (d .answers) in record { answers = e ∙ sym (rw z); chooses = λ y. absurd (omega (arith, y, e)) })
       (λ z.
-      let same : (g : ℕ) → g < groups → named g ≡ true → madeAt made g (wish g) ≡ found g (wish g)
-      = λ g l x. same-found g l (rw x at (any-no groups (blankIn requirement levels s t named) z g l)) in
+      let same : (g : ℕ) → g < P .groups → named g ≡ true → madeAt made g (wish g) ≡ found g (wish g)
+      = λ g l x. same-found h g l (rw x at (any-no (P .groups) (blankIn (P .requirement) (m .levels) s t named) z g l)) in
       record {
         answers = d .answers ∙ rw (
           blank,
           z,
-          over-groups (λ g. eqb (madeAt made g (wish g)) 255) (lackingIn found requirement levels s t named)
+          over-groups (λ g. eqb (madeAt made g (wish g)) 255) (lackingIn found (P .requirement) (m .levels) s t named)
               (λ g l. split (named g) (λ x. rw (x, same g l x)) (λ x. rw x)),
         );
-        chooses = λ y. d .chooses y ∙ fill-over 255 (pickIn (madeAt made) requirement levels s t (bit need)) (pickIn found requirement levels s t named) 8 groups b
-            (λ g l. rw (n g, lt-ltb g groups l) (split (named g) (λ x. rw (x, same g l x)) (λ x. rw x)))
-            (λ g m l. rw (n g, le-ltb g groups m));
+        chooses = λ y. d .chooses y ∙ fill-over 255 (pickIn (madeAt made) (P .requirement) (m .levels) s t (bit need)) (pickIn found (P .requirement) (m .levels) s t named) 8 (P .groups) fits
+            (λ g l. rw (n g, lt-ltb g (P .groups) l) (split (named g) (λ x. rw (x, same g l x)) (λ x. rw x)))
+            (λ g k l. rw (n g, le-ltb g (P .groups) k));
       })

@@ -1,9 +1,10 @@
--- What the work of each call does on the arrays that are lent to it. proofs/Meet has that on a record that passes test 20 this is what the rules say.
+-- What the code keeps beside the record while it serves a list (rights granted, groups needed), and what a start looks for, group by group. Each
+-- has its law in proofs/: on a record that passes test 20 it is what the rules say.
 use mathlib.Core.Path.{_≡_}
 use mathlib.Core.Logic.{_≢_}
 use Prim.Native.Nat.{ℕ, _+_, _*_, _<_}
 use mathlib.Core.Bool.{Bool, true, not, cond, _&&_, _||_}
-use mathlib.Core.List.{List, [], _∷_, _++_}
+use mathlib.Core.List.{List, [], _∷_}
 use lib.Dec.{eqb, ltb, leb}
 use lib.ListN.{getD, length, replicate}
 use lib.ListN as ListN
@@ -11,12 +12,8 @@ use Rattle.base.specs.Below.{allBelow, anyBelow}
 use Rattle.base.specs.Bits.{bit}
 use Rattle.base.specs.Chain.{Test, _gives_, first}
 use Rattle.base.specs.Fill.{fill}
-use Rattle.plant.specs.Checks.{entryBelow}
-use Rattle.plant.specs.Right.{rights, hasRight}
-use Rattle.choice.specs.Table.{linkIn, groupChoice, Tabled}
-use Rattle.rules.specs.Rules.{Call}
-use Rattle.rules.specs.Rules as call
-use Rattle.rules.specs.Record.{levelAt, chosenAt, fillFrom}
+use Rattle.plant.specs.Right.{hasRight}
+use Rattle.rules.specs.Record.{levelAt, chosenAt}
 
 -- a stored task is none or a task; a stored level is unset or a level
 abbrev pub taskKnown : List ℕ → ℕ → Bool
@@ -25,26 +22,11 @@ taskKnown running s = eqb (getD running s 0) 255 || ltb (getD running s 0) 16
 abbrev pub levelKnown : List ℕ → ℕ → ℕ → ℕ → Bool
 levelKnown levels s t d = eqb (getD levels (levelAt s t d) 0) 255 || ltb (getD levels (levelAt s t d) 0) 16
 
--- set
-abbrev pub setNumber : List ℕ → List ℕ → ℕ → ℕ → ℕ → ℕ → ℕ → ℕ → ℕ → ℕ
-setNumber sizes lattice skids tasks requirements s t d v =
-    first (leb skids s gives 21 ∷ leb tasks t gives 22 ∷ leb requirements d gives 23 ∷ leb (getD sizes (getD lattice d 0) 0) v gives 24 ∷ [])
-
-abbrev pub setLevels : ℕ → List ℕ → ℕ → ℕ → ℕ → ℕ → List ℕ
-setLevels number levels s t d v = cond (eqb number 0) (ListN.set levels (levelAt s t d) v) levels
-
--- gate
+-- whether skid s holds right r on tank o, read off the arrays; proofs/Views has that this is what the rules say
 abbrev pub heldIn : List ℕ → List ℕ → List ℕ → List ℕ → ℕ → ℕ → ℕ → Bool
 heldIn group rights running chosen s o r =
     not (eqb (getD running s 0) 255)
     && (hasRight (getD rights (getD running s 0 * 8 + getD group o 0) 0) r && eqb (getD chosen (chosenAt s (getD group o 0)) 0) o)
-
--- the answer, where it is known whether the skid holds the right
-abbrev pub gateNumber : ℕ → ℕ → ℕ → ℕ → ℕ → Bool → ℕ
-gateNumber skids tanks s o r held = first (leb skids s gives 21 ∷ leb tanks o gives 29 ∷ leb rights r gives 30 ∷ not held gives 33 ∷ [])
-
-abbrev pub gateAnswer : List ℕ → List ℕ → List ℕ → List ℕ → ℕ → ℕ → ℕ → ℕ → ℕ → ℕ
-gateAnswer group rights running chosen skids tanks s o r = gateNumber skids tanks s o r (heldIn group rights running chosen s o r)
 
 -- the rights that task t names on group g, and that it names one there
 abbrev pub rightsIn : List ℕ → ℕ → ℕ → ℕ
@@ -63,12 +45,9 @@ pub record Granted (rights running : List ℕ) (skids : ℕ) (granted : List ℕ
   pub size : length granted ≡ 64
   pub right : (s g : ℕ) → s < skids → g < 8 → getD granted (chosenAt s g) 0 ≡ grantIn rights running s g
 
--- the gate by them; proofs/Grants has that it is the same
+-- the same as heldIn, by them; proofs/Grants has that it is
 abbrev pub grantedIn : List ℕ → List ℕ → List ℕ → ℕ → ℕ → ℕ → Bool
 grantedIn group granted chosen s o r = eqb (getD chosen (chosenAt s (getD group o 0)) 0) o && hasRight (getD granted (chosenAt s (getD group o 0)) 0) r
-
-abbrev pub gateBy : List ℕ → List ℕ → List ℕ → ℕ → ℕ → ℕ → ℕ → ℕ → ℕ
-gateBy group granted chosen skids tanks s o r = gateNumber skids tanks s o r (grantedIn group granted chosen s o r)
 
 -- what a table of choices has for group g and level v
 abbrev pub madeAt : List ℕ → ℕ → ℕ → ℕ
@@ -83,11 +62,6 @@ NeedIn rights t groups need = (g : ℕ) → bit need g ≡ ltb g groups && needs
 pub record Needed (rights : List ℕ) (groups : ℕ) (needs : List ℕ) : Type 0 where
   pub size : length needs ≡ 16
   pub right : (t : ℕ) → t < 16 → getD needs t 0 ≢ 0 → NeedIn rights t groups (getD needs t 0)
-
--- what a list remembers from one request to the next: the table of choices, made at the first start that passes 26, and the sets
-pub record Remembered (sets group level lattice requirement rights : List ℕ) (groups tanks : ℕ) (made needs : List ℕ) : Type 0 where
-  pub table : Tabled sets group level lattice requirement groups tanks made
-  pub tasks : Needed rights groups needs
 
 -- start's conditions: those that are asked before any group is looked at
 abbrev pub earlyTests : List ℕ → List ℕ → ℕ → ℕ → ℕ → ℕ → List Test
@@ -140,64 +114,6 @@ Reached requirement levels s t need = (g : ℕ) → bit need g ≡ true → (g <
 abbrev pub getRow : List ℕ → ℕ → ℕ
 getRow row g = getD row g 0
 
--- stop
-abbrev pub stopNumber : ℕ → ℕ → ℕ
-stopNumber skids s = first (leb skids s gives 21 ∷ [])
-
-abbrev pub stopRunning : ℕ → ℕ → List ℕ → List ℕ
-stopRunning skids s running = cond (leb skids s) running (ListN.set running s 255)
-
-abbrev pub stopChosen : ℕ → ℕ → List ℕ → List ℕ
-stopChosen skids s chosen = cond (leb skids s) chosen (fillFrom chosen (s * 8) (getRow (replicate 8 255)) 8)
-
-abbrev pub stopGranted : ℕ → ℕ → List ℕ → List ℕ
-stopGranted skids s granted = cond (leb skids s) granted (fillFrom granted (s * 8) (getRow (replicate 8 0)) 8)
-
 -- the level that a skid has for a group's requirement is unset or a level
 abbrev pub wishKnown : List ℕ → List ℕ → ℕ → ℕ → ℕ → Bool
 wishKnown requirement levels s t g = levelKnown levels s t (getD requirement g 0)
-
--- start: the number, and what the running tasks and the choices then are
-module _ (sets group level lattice requirement rights may levels running chosen : List ℕ) (skids tasks groups tanks s t : ℕ) where
-  abbrev pub startRow : List ℕ
-  startRow = rowIn (groupChoice sets group level lattice requirement tanks) requirement levels s t (needsIn rights t) groups
-
-  abbrev pub startNumber : ℕ
-  startNumber = first (earlyTests may running skids tasks s t ++ rowTests (groupChoice sets group level lattice requirement tanks) requirement levels s t (needsIn rights t) groups)
-
-  pub record Started (number : ℕ) (running′ chosen′ : List ℕ) : Type 0 where
-    pub answers : number ≡ startNumber
-    pub runs : running′ ≡ cond (eqb startNumber 0) (ListN.set running s t) running
-    pub chooses : chosen′ ≡ cond (eqb startNumber 0) (fillFrom chosen (s * 8) (getRow startRow) 8) chosen
-
--- A request: the kind and four bytes in the order of the call's arguments, unused ones ignored.
-abbrev pub callBy : ℕ → ℕ → ℕ → ℕ → ℕ → Call
-callBy kind a b c d =
-    cond (eqb kind 0) (call.set a b c d)
-    (cond (eqb kind 1) (call.start a b)
-    (cond (eqb kind 2) (call.stop a)
-    (cond (eqb kind 3) (call.gate a b c)
-    call.unknown)))
-
--- What a request answers and what the changing parts then are, on the arrays that are lent.
-module _ (sizes sets lattice requirement group level rights may levels running chosen : List ℕ) (skids tasks requirements groups tanks kind a b c d : ℕ) where
-  abbrev pub startOf : ℕ
-  startOf = startNumber sets group level lattice requirement rights may levels running chosen skids tasks groups tanks a b
-
-  abbrev pub setOf : ℕ
-  setOf = setNumber sizes lattice skids tasks requirements a b c d
-
-  pub record Turned (number : ℕ) (levels′ running′ chosen′ : List ℕ) : Type 0 where
-    pub answers : number ≡ cond (eqb kind 0) setOf (cond (eqb kind 1) startOf (cond (eqb kind 2) (stopNumber skids a) (cond (eqb kind 3) (gateAnswer group rights running chosen skids tanks a b c) 32)))
-    pub sets-levels : levels′ ≡ cond (eqb kind 0) (setLevels setOf levels a b c d) levels
-    pub runs : running′ ≡ cond (eqb kind 1) (cond (eqb startOf 0) (ListN.set running a b) running) (cond (eqb kind 2) (stopRunning skids a running) running)
-    pub chooses : chosen′ ≡ cond (eqb kind 1) (cond (eqb startOf 0) (fillFrom chosen (a * 8) (getRow (startRow sets group level lattice requirement rights may levels running chosen skids tasks groups tanks a b)) 8) chosen) (cond (eqb kind 2) (stopChosen skids a chosen) chosen)
-
--- What every request leans on, in the arrays: links within their counts, and stored tasks and levels that can be looked up.
-pub record Lent (lattice requirement group level levels running : List ℕ) (skids tasks requirements groups tanks : ℕ) : Type 0 where
-  pub lattices-there : allBelow (entryBelow lattice 8) requirements ≡ true
-  pub links-there : allBelow (linkIn lattice requirement) groups ≡ true
-  pub groups-counted : allBelow (entryBelow group groups) tanks ≡ true
-  pub levels-there : allBelow (entryBelow level 16) tanks ≡ true
-  pub tasks-known : allBelow (taskKnown running) skids ≡ true
-  pub wishes-known : (s t : ℕ) → s < skids → t < tasks → allBelow (wishKnown requirement levels s t) groups ≡ true

@@ -18,7 +18,7 @@ use Rattle.rules.specs.declared.Monitor.{Monitor}
 use Rattle.rules.specs.Rules.{View, holds}
 use Rattle.rules.specs.Record.{viewOf, intact}
 use Rattle.calls.proofs.Ready.{plant-valid, groups-there, tasks-known}
-use Rattle.calls.proofs.Meet.{held-same}
+use Rattle.calls.proofs.Views.{held-same}
 use Rattle.held.proofs.Bound.{list-short}
 use Rattle.held.specs.Held.{HeldRight, Before, Lists, rightAt, rightsOn, rightsOf, rightsHeld, rightBytes, listing}
 use Rattle.held.specs.Work.{Known, rightIn, skidsIn, listIn}

@@ -4,13 +4,13 @@ ghost use lib.ListN.{replicate};
 ghost use Rattle.rules.specs.Rules.{set, start, stop, gate};
 ghost use mathlib.Core.Bool.{true};
 ghost use Rattle.rules.specs.Record.{fresh, intact};
-ghost use Rattle.calls.specs.Work.{callBy};
+ghost use Rattle.calls.specs.Lent.{callBy};
 ghost use Rattle.monitor.specs.Calls.{stepOf, openedOf};
+use calls::Counts;
 use intact::is_intact;
 use plant::Plant;
 use rules::Monitor;
-use steps::grants_of;
-use turns::turn;
+use turns::call_at;
 
 // The answer to a call, and the monitor after it.
 #[repr(C)]
@@ -62,7 +62,7 @@ pub fn open(file: &[u8]) -> Answered
 }
 
 // One request on a record that has passed test 20. The record is taken apart once and made anew once; the work is on lent arrays.
-pub fn advance(m: Monitor, kind: u8, a: u8, b: u8, c: u8, d: u8) -> Answered
+pub fn call_tested(m: Monitor, kind: u8, a: u8, b: u8, c: u8, d: u8) -> Answered
     requires { ⌜ intact (m .plant) m ≡ true ⌝ }
     ensures { λ r. ⌜ r ≡ stepOf m (callBy kind a b c d) ⌝ }
 {
@@ -70,29 +70,28 @@ pub fn advance(m: Monitor, kind: u8, a: u8, b: u8, c: u8, d: u8) -> Answered
     let mut levels = m.levels;
     let mut running = m.running;
     let mut chosen = m.chosen;
-    let mut made = [254u8; 128];
-    let mut needs = [0u16; 16];
-    let mut granted = grants_of(&p.rights, &running, p.skids);
-    let answer = turn(
+    let counts = Counts {
+        lattices: p.lattices,
+        requirements: p.requirements,
+        groups: p.groups,
+        tanks: p.tanks,
+        tasks: p.tasks,
+        skids: p.skids,
+    };
+    let answer = call_at(
+        counts,
         &p.sizes,
         &p.sets,
         &p.lattice,
         &p.requirement,
         &p.group,
         &p.level,
+        &p.names,
         &p.rights,
         &p.may,
         &mut levels,
         &mut running,
         &mut chosen,
-        &mut made,
-        &mut needs,
-        &mut granted,
-        p.skids,
-        p.tasks,
-        p.requirements,
-        p.groups,
-        p.tanks,
         kind,
         a,
         b,
@@ -120,7 +119,7 @@ pub fn call(m: Monitor, kind: u8, a: u8, b: u8, c: u8, d: u8) -> Answered
             monitor: m,
         };
     }
-    advance(m, kind, a, b, c, d)
+    call_tested(m, kind, a, b, c, d)
 }
 
 // Set: 20, 21, 22, 23, 24, or the level is stored.

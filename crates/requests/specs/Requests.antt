@@ -1,6 +1,6 @@
 -- The call that a request record makes.
 use Rattle.rules.specs.Rules.{Call}
-use Rattle.calls.specs.Work.{callBy}
+use Rattle.calls.specs.Lent.{callBy}
 use Rattle.requests.specs.declared.Request.{Request}
 
 abbrev pub callOf : Request → Call

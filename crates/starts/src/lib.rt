@@ -3,17 +3,18 @@ ghost use mathlib.Core.Path.{_≡_};
 ghost use mathlib.Core.Bool.{true};
 ghost use Prim.Native.Nat.{_<_, _≤_};
 ghost use lib.ListN.{getD, replicate};
-ghost use Rattle.base.specs.Below.{allBelow};
 ghost use Rattle.base.specs.Bits.{bit};
 ghost use Rattle.base.specs.Chain.{first};
-ghost use Rattle.plant.specs.Checks.{entryBelow};
-ghost use Rattle.choice.specs.Table.{linkIn};
-ghost use Rattle.calls.specs.Work.{levelKnown, earlyTests, wishKnown, madeAt, NeedIn, Needed, Reached, GroupDone, RowDone, Started, Remembered, Granted};
+ghost use Rattle.rules.specs.declared.Monitor.{Monitor};
+ghost use Rattle.rules.specs.Rules.{start};
+ghost use Rattle.rules.specs.Record.{recordOf, withTask, intact};
+ghost use Rattle.calls.specs.Lent.{plantOf, Does, Tables};
+ghost use Rattle.calls.specs.Work.{levelKnown, earlyTests, madeAt, NeedIn, Needed, Reached, GroupDone, RowDone};
+use calls::Counts;
 use choices::make_choices;
 use sets::wide;
 use sets::with_one;
 use sets::without_one;
-use steps::grant_row;
 use steps::put_row;
 
 // The groups on which task t names a right, as a set.
@@ -125,13 +126,16 @@ fn start_early(may: &[u16; 8], running: &[u8; 8], skids: u8, tasks: u8, s: u8, t
     0
 }
 
-// Start: 21 to 28, or the task runs with its rights and its groups get their choice, the skid's other groups 255.
+// Start: 21 to 28, or the task runs and its groups get their choice, the skid's other groups 255.
 pub fn start_at<'a>(
+    counts: Counts,
+    sizes: &'a [u8; 8],
     sets: &'a [u16; 128],
-    group: &'a [u8; 64],
-    level: &'a [u8; 64],
     lattice: &'a [u8; 8],
     requirement: &'a [u8; 8],
+    group: &'a [u8; 64],
+    level: &'a [u8; 64],
+    names: &'a [u8; 16],
     rights: &'a [u8; 128],
     may: &'a [u16; 8],
     levels: &[u8; 1024],
@@ -139,26 +143,22 @@ pub fn start_at<'a>(
     chosen: &mut [u8; 64],
     made: &mut [u8; 128],
     needs: &mut [u16; 16],
-    granted: &mut [u8; 64],
-    skids: u8,
-    tasks: u8,
-    groups: u8,
-    tanks: u8,
     s: u8,
     t: u8,
 ) -> u8
-    requires { ⌜ (skids ≤ 8) × ((tasks ≤ 16) × ((groups ≤ 8) × (tanks ≤ 64))) ⌝ }
-    requires { ⌜ allBelow (linkIn (now lattice) (now requirement)) groups ≡ true ⌝ }
-    requires { ⌜ (allBelow (entryBelow (now group) groups) tanks ≡ true) × (allBelow (entryBelow (now level) 16) tanks ≡ true) ⌝ }
-    requires { ⌜ Remembered (now sets) (now group) (now level) (now lattice) (now requirement) (now rights) groups tanks (now made) (now needs) ⌝ }
-    requires { ⌜ Granted (now rights) (now running) skids (now granted) ⌝ }
-    requires { ⌜ (s < skids → t < tasks → allBelow (wishKnown (now requirement) (now levels) s t) groups ≡ true) ⌝ }
-    ensures { λ r. ⌜ (Started (now (sets .entry)) (now (group .entry)) (now (level .entry)) (now (lattice .entry)) (now (requirement .entry)) (now (rights .entry)) (now (may .entry)) (now (levels .entry)) (now (running .entry)) (now (chosen .entry)) skids tasks groups tanks s t r (now (running .exit)) (now (chosen .exit))) × (Remembered (now (sets .entry)) (now (group .entry)) (now (level .entry)) (now (lattice .entry)) (now (requirement .entry)) (now (rights .entry)) groups tanks (now (made .exit)) (now (needs .exit)) × Granted (now (rights .entry)) (now (running .exit)) skids (now (granted .exit))) ⌝ }
+    ghost { Monitor }
+    requires { λ m. ⌜ recordOf (plantOf counts (now sizes) (now sets) (now lattice) (now requirement) (now group) (now level) (now names)
+        (now rights) (now may)) (now levels) (now running) (now chosen) ≡ m ⌝ }
+    requires { λ m. ⌜ intact (m .plant) m ≡ true ⌝ }
+    requires { λ m. ⌜ Tables (m .plant) (now made) (now needs) ⌝ }
+    ensures { λ m r. ⌜ Does m (start s t) r (withTask m (now (running .exit)) (now (chosen .exit))) ⌝ }
+    ensures { λ m r. ⌜ Tables (m .plant) (now (made .exit)) (now (needs .exit)) ⌝ }
 {
-    let early = start_early(may, running, skids, tasks, s, t);
+    let early = start_early(may, running, counts.skids, counts.tasks, s, t);
     if early != 0 {
         return early;
     }
+    let groups = counts.groups;
     make_choices(
         sets,
         group,
@@ -167,7 +167,7 @@ pub fn start_at<'a>(
         requirement,
         made,
         groups,
-        tanks,
+        counts.tanks,
     );
     let need = need_once(rights, needs, t as usize, groups);
     let mut row = [255u8; 8];
@@ -185,6 +185,5 @@ pub fn start_at<'a>(
     }
     running[s as usize] = t;
     put_row(chosen, s as usize, row);
-    grant_row(granted, rights, s as usize, t as usize);
     0
 }

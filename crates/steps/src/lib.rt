@@ -1,12 +1,15 @@
-// The work of set, stop and gate on lent arrays, and the rights granted to each skid.
+// The work of set, stop and gate on the parts of a record that are lent to it, and a skid's row of choices or of rights granted.
 ghost use mathlib.Core.Path.{_≡_};
 ghost use mathlib.Core.Bool.{true, cond};
-ghost use Prim.Native.Nat.{_*_, _<_, _≤_};
-ghost use lib.ListN.{getD, length};
-ghost use Rattle.base.specs.Below.{allBelow};
-ghost use Rattle.plant.specs.Checks.{entryBelow};
-ghost use Rattle.rules.specs.Record.{fillFrom};
-ghost use Rattle.calls.specs.Work.{taskKnown, setNumber, setLevels, gateBy, grantedIn, Granted, rightsIn, stopGranted, heldIn, getRow, stopNumber, stopRunning, stopChosen};
+ghost use Prim.Native.Nat.{ℕ, _*_, _<_};
+ghost use lib.ListN.{getD};
+ghost use Rattle.plant.specs.declared.Plant.{Plant};
+ghost use Rattle.rules.specs.declared.Monitor.{Monitor};
+ghost use Rattle.rules.specs.Rules.{View, set, stop, gate, refusal};
+ghost use Rattle.rules.specs.Record.{fillFrom, withLevels, withTask};
+ghost use Rattle.calls.specs.Lent.{countsOf, Does, SetReads, StopReads, GateReads, GrantReads};
+ghost use Rattle.calls.specs.Work.{taskKnown, grantedIn, rightsIn, heldIn, getRow};
+use calls::Counts;
 use plant::Right;
 use sets::wide;
 
@@ -26,24 +29,22 @@ fn missing(skid: bool, other: bool, second: u8, third: u8) -> u8
 
 // Set: 21 to 24, or the level is stored.
 pub fn set_at<'a>(
-    levels: &mut [u8; 1024],
+    counts: Counts,
     sizes: &'a [u8; 8],
     lattice: &'a [u8; 8],
-    skids: u8,
-    tasks: u8,
-    requirements: u8,
+    levels: &mut [u8; 1024],
     s: u8,
     t: u8,
     d: u8,
     v: u8,
 ) -> u8
-    requires { ⌜ (skids ≤ 8) × ((tasks ≤ 16) × (requirements ≤ 8)) ⌝ }
-    requires { ⌜ allBelow (entryBelow (now lattice) 8) requirements ≡ true ⌝ }
-    ensures { λ r. ⌜ (r ≡ setNumber (now (sizes .entry)) (now (lattice .entry)) skids tasks requirements s t d v) × (now (levels .exit) ≡ setLevels (setNumber (now (sizes .entry)) (now (lattice .entry)) skids tasks requirements s t d v) (now (levels .entry)) s t d v) ⌝ }
+    requires { ⌜ ((m : Monitor) × SetReads counts (now sizes) (now lattice) (now levels) m) ⌝ }
+    ensures { λ r. ⌜ ((m : Monitor) → SetReads counts (now (sizes .entry)) (now (lattice .entry)) (now (levels .entry)) m
+        → Does m (set s t d v) r (withLevels m (now (levels .exit)))) ⌝ }
 {
-    let no_skid = skids <= s;
-    let no_task = tasks <= t;
-    if no_skid | no_task | (requirements <= d) {
+    let no_skid = counts.skids <= s;
+    let no_task = counts.tasks <= t;
+    if no_skid | no_task | (counts.requirements <= d) {
         return missing(no_skid, no_task, 22, 23);
     }
     let l = wide(lattice[d as usize]);
@@ -54,25 +55,60 @@ pub fn set_at<'a>(
     0
 }
 
-// Gate: 21, 29, 30; 0 where the skid holds the right, and else 33.
+// Gate up to 30: 21, 29, 30, or 0 where the skid, the tank and the right are there.
+fn gate_refusal(counts: Counts, s: u8, o: u8, r: u8) -> u8
+    ensures { λ x. ⌜ ((P : Plant) (vs : ℕ → View) → countsOf P ≡ counts → x ≡ refusal P vs (gate s o r)) ⌝ }
+{
+    let no_skid = counts.skids <= s;
+    let no_tank = counts.tanks <= o;
+    if no_skid | no_tank | !Right::valid(r) {
+        return missing(no_skid, no_tank, 29, 30);
+    }
+    0
+}
+
+// Gate by the record: 21, 29, 30; 0 where the skid holds the right, and else 33.
 pub fn gate_at<'a, 'b>(
+    counts: Counts,
     group: &'a [u8; 64],
-    granted: &'b [u8; 64],
+    rights: &'a [u8; 128],
+    running: &'b [u8; 8],
     chosen: &'b [u8; 64],
-    skids: u8,
-    tanks: u8,
     s: u8,
     o: u8,
     r: u8,
 ) -> u8
-    requires { ⌜ (skids ≤ 8) × (tanks ≤ 64) ⌝ }
-    requires { ⌜ allBelow (entryBelow (now group) 8) tanks ≡ true ⌝ }
-    ensures { λ x. ⌜ x ≡ gateBy (now (group .entry)) (now (granted .entry)) (now (chosen .entry)) skids tanks s o r ⌝ }
+    requires { ⌜ ((m : Monitor) × GateReads counts (now group) (now rights) (now running) (now chosen) m) ⌝ }
+    ensures { λ x. ⌜ ((m : Monitor) → GateReads counts (now (group .entry)) (now (rights .entry)) (now (running .entry)) (now (chosen .entry)) m
+        → Does m (gate s o r) x m) ⌝ }
 {
-    let no_skid = skids <= s;
-    let no_tank = tanks <= o;
-    if no_skid | no_tank | !Right::valid(r) {
-        return missing(no_skid, no_tank, 29, 30);
+    let number = gate_refusal(counts, s, o, r);
+    if number != 0 {
+        return number;
+    }
+    if !is_held(group, rights, running, chosen, s as usize, o, r) {
+        return 33;
+    }
+    0
+}
+
+// The same in a list, by the rights granted.
+pub fn gate_granted<'a, 'b>(
+    counts: Counts,
+    group: &'a [u8; 64],
+    granted: &'b [u8; 64],
+    chosen: &'b [u8; 64],
+    s: u8,
+    o: u8,
+    r: u8,
+) -> u8
+    requires { ⌜ ((m : Monitor) × GrantReads counts (now group) (now granted) (now chosen) m) ⌝ }
+    ensures { λ x. ⌜ ((m : Monitor) → GrantReads counts (now (group .entry)) (now (granted .entry)) (now (chosen .entry)) m
+        → Does m (gate s o r) x m) ⌝ }
+{
+    let number = gate_refusal(counts, s, o, r);
+    if number != 0 {
+        return number;
     }
     if !is_granted(group, granted, chosen, s as usize, o, r) {
         return 33;
@@ -145,38 +181,16 @@ pub fn grant_row<'a>(granted: &mut [u8; 64], rights: &'a [u8; 128], s: usize, t:
     }
 }
 
-// The rights of the running tasks of a record.
-pub fn grants_of<'a>(rights: &'a [u8; 128], running: &'a [u8; 8], skids: u8) -> [u8; 64]
-    requires { ⌜ (skids ≤ 8) × (length (now running) ≡ 8) ⌝ }
-    requires { ⌜ allBelow (taskKnown (now running)) skids ≡ true ⌝ }
-    ensures { λ r. ⌜ Granted (now (rights .entry)) (now (running .entry)) skids r ⌝ }
-{
-    let mut granted = [0u8; 64];
-    for s in 0..skids as usize {
-        let t = running[s];
-        if t != 255 {
-            grant_row(&mut granted, rights, s, wide(t));
-        }
-    }
-    granted
-}
-
 // Stop: 21, or the skid runs nothing and has no tank.
-pub fn stop_at(
-    running: &mut [u8; 8],
-    chosen: &mut [u8; 64],
-    granted: &mut [u8; 64],
-    skids: u8,
-    s: u8,
-) -> u8
-    requires { ⌜ skids ≤ 8 ⌝ }
-    ensures { λ r. ⌜ (r ≡ stopNumber skids s) × ((now (running .exit) ≡ stopRunning skids s (now (running .entry))) × ((now (chosen .exit) ≡ stopChosen skids s (now (chosen .entry))) × (now (granted .exit) ≡ stopGranted skids s (now (granted .entry))))) ⌝ }
+pub fn stop_at(counts: Counts, running: &mut [u8; 8], chosen: &mut [u8; 64], s: u8) -> u8
+    requires { ⌜ ((m : Monitor) × StopReads counts (now running) (now chosen) m) ⌝ }
+    ensures { λ r. ⌜ ((m : Monitor) → StopReads counts (now (running .entry)) (now (chosen .entry)) m
+        → Does m (stop s) r (withTask m (now (running .exit)) (now (chosen .exit)))) ⌝ }
 {
-    if skids <= s {
+    if counts.skids <= s {
         return 21;
     }
     running[s as usize] = 255;
     put_row(chosen, s as usize, [255u8; 8]);
-    put_row(granted, s as usize, [0u8; 8]);
     0
 }

@@ -1,21 +1,138 @@
-// One request of any kind on lent arrays. Whoever makes it knows that the record passes test 20: it was tested, or is the fresh one of an accepted
-// plant, and no call makes it fail.
-ghost use Prim.Native.Nat.{_<_, _≤_};
-ghost use Rattle.calls.specs.Work.{Granted, Lent, Turned, Remembered};
+// One request of any kind on a record that has passed test 20 and is lent in its parts: by itself, or in a list, which keeps beside the record what
+// the next request reads. Whoever makes it knows that the record passes: it was tested, or is the fresh one of an accepted plant, and no call makes it
+// fail.
+ghost use mathlib.Core.Path.{_≡_};
+ghost use mathlib.Core.Bool.{true};
+ghost use Rattle.rules.specs.declared.Monitor.{Monitor};
+ghost use Rattle.rules.specs.Rules.{start};
+ghost use Rattle.rules.specs.Record.{recordOf, withTask, intact};
+ghost use Rattle.calls.specs.Lent.{plantOf, callBy, Does, Tables};
+ghost use Rattle.calls.specs.Work.{Granted};
+use calls::Counts;
 use starts::start_at;
 use steps::gate_at;
+use steps::gate_granted;
+use steps::grant_row;
+use steps::put_row;
 use steps::set_at;
 use steps::stop_at;
 
-// One request of any kind: 0 set, 1 start, 2 stop, 3 gate, and 32 for another. `made` has the table of choices and `needs` the groups of each
-// task, once a start made them, and `granted` the rights of the running tasks.
-pub fn turn<'a>(
+// A start by itself makes its table of choices and keeps it for nobody.
+fn start_alone<'a>(
+    counts: Counts,
     sizes: &'a [u8; 8],
     sets: &'a [u16; 128],
     lattice: &'a [u8; 8],
     requirement: &'a [u8; 8],
     group: &'a [u8; 64],
     level: &'a [u8; 64],
+    names: &'a [u8; 16],
+    rights: &'a [u8; 128],
+    may: &'a [u16; 8],
+    levels: &[u8; 1024],
+    running: &mut [u8; 8],
+    chosen: &mut [u8; 64],
+    s: u8,
+    t: u8,
+) -> u8
+    ghost { Monitor }
+    requires { λ m. ⌜ recordOf (plantOf counts (now sizes) (now sets) (now lattice) (now requirement) (now group) (now level) (now names)
+        (now rights) (now may)) (now levels) (now running) (now chosen) ≡ m ⌝ }
+    requires { λ m. ⌜ intact (m .plant) m ≡ true ⌝ }
+    ensures { λ m r. ⌜ Does m (start s t) r (withTask m (now (running .exit)) (now (chosen .exit))) ⌝ }
+{
+    let mut made = [254u8; 128];
+    let mut needs = [0u16; 16];
+    start_at(
+        counts,
+        sizes,
+        sets,
+        lattice,
+        requirement,
+        group,
+        level,
+        names,
+        rights,
+        may,
+        levels,
+        running,
+        chosen,
+        &mut made,
+        &mut needs,
+        s,
+        t,
+    )
+}
+
+// One request by itself: 0 set, 1 start, 2 stop, 3 gate, and 32 for another.
+pub fn call_at<'a>(
+    counts: Counts,
+    sizes: &'a [u8; 8],
+    sets: &'a [u16; 128],
+    lattice: &'a [u8; 8],
+    requirement: &'a [u8; 8],
+    group: &'a [u8; 64],
+    level: &'a [u8; 64],
+    names: &'a [u8; 16],
+    rights: &'a [u8; 128],
+    may: &'a [u16; 8],
+    levels: &mut [u8; 1024],
+    running: &mut [u8; 8],
+    chosen: &mut [u8; 64],
+    kind: u8,
+    a: u8,
+    b: u8,
+    c: u8,
+    d: u8,
+) -> u8
+    ghost { Monitor }
+    requires { λ m. ⌜ recordOf (plantOf counts (now sizes) (now sets) (now lattice) (now requirement) (now group) (now level) (now names)
+        (now rights) (now may)) (now levels) (now running) (now chosen) ≡ m ⌝ }
+    requires { λ m. ⌜ intact (m .plant) m ≡ true ⌝ }
+    ensures { λ m r. ⌜ Does m (callBy kind a b c d) r (recordOf (m .plant) (now (levels .exit)) (now (running .exit)) (now (chosen .exit))) ⌝ }
+{
+    if 2 < kind {
+        if kind == 3 {
+            return gate_at(counts, group, rights, running, chosen, a, b, c);
+        }
+        return 32;
+    }
+    if kind == 0 {
+        return set_at(counts, sizes, lattice, levels, a, b, c, d);
+    }
+    if kind == 1 {
+        return start_alone(
+            counts,
+            sizes,
+            sets,
+            lattice,
+            requirement,
+            group,
+            level,
+            names,
+            rights,
+            may,
+            levels,
+            running,
+            chosen,
+            a,
+            b,
+        );
+    }
+    stop_at(counts, running, chosen, a)
+}
+
+// One request of a list. `made` has the table of choices and `needs` the groups of each task, once a start made them, and `granted` the rights of the
+// running tasks.
+pub fn turn<'a>(
+    counts: Counts,
+    sizes: &'a [u8; 8],
+    sets: &'a [u16; 128],
+    lattice: &'a [u8; 8],
+    requirement: &'a [u8; 8],
+    group: &'a [u8; 64],
+    level: &'a [u8; 64],
+    names: &'a [u8; 16],
     rights: &'a [u8; 128],
     may: &'a [u16; 8],
     levels: &mut [u8; 1024],
@@ -24,50 +141,41 @@ pub fn turn<'a>(
     made: &mut [u8; 128],
     needs: &mut [u16; 16],
     granted: &mut [u8; 64],
-    skids: u8,
-    tasks: u8,
-    requirements: u8,
-    groups: u8,
-    tanks: u8,
     kind: u8,
     a: u8,
     b: u8,
     c: u8,
     d: u8,
 ) -> u8
-    requires { ⌜ (skids ≤ 8) × ((tasks ≤ 16) × ((requirements ≤ 8) × ((groups ≤ 8) × (tanks ≤ 64)))) ⌝ }
-    requires { ⌜ Lent (now lattice) (now requirement) (now group) (now level) (now levels) (now running) skids tasks requirements groups tanks ⌝ }
-    requires { ⌜ Remembered (now sets) (now group) (now level) (now lattice) (now requirement) (now rights) groups tanks (now made) (now needs) ⌝ }
-    requires { ⌜ Granted (now rights) (now running) skids (now granted) ⌝ }
-    ensures { λ r. ⌜ (Turned (now (sizes .entry)) (now (sets .entry)) (now (lattice .entry)) (now (requirement .entry)) (now (group .entry)) (now (level .entry)) (now (rights .entry)) (now (may .entry)) (now (levels .entry)) (now (running .entry)) (now (chosen .entry)) skids tasks requirements groups tanks kind a b c d r (now (levels .exit)) (now (running .exit)) (now (chosen .exit))) × (Remembered (now (sets .entry)) (now (group .entry)) (now (level .entry)) (now (lattice .entry)) (now (requirement .entry)) (now (rights .entry)) groups tanks (now (made .exit)) (now (needs .exit)) × Granted (now (rights .entry)) (now (running .exit)) skids (now (granted .exit))) ⌝ }
+    ghost { Monitor }
+    requires { λ m. ⌜ recordOf (plantOf counts (now sizes) (now sets) (now lattice) (now requirement) (now group) (now level) (now names)
+        (now rights) (now may)) (now levels) (now running) (now chosen) ≡ m ⌝ }
+    requires { λ m. ⌜ intact (m .plant) m ≡ true ⌝ }
+    requires { λ m. ⌜ Tables (m .plant) (now made) (now needs) ⌝ }
+    requires { λ m. ⌜ Granted (m .plant .rights) (m .running) (m .plant .skids) (now granted) ⌝ }
+    ensures { λ m r. ⌜ Does m (callBy kind a b c d) r (recordOf (m .plant) (now (levels .exit)) (now (running .exit)) (now (chosen .exit))) ⌝ }
+    ensures { λ m r. ⌜ Tables (m .plant) (now (made .exit)) (now (needs .exit)) ⌝ }
+    ensures { λ m r. ⌜ Granted (m .plant .rights) (now (running .exit)) (m .plant .skids) (now (granted .exit)) ⌝ }
 {
     if 2 < kind {
         if kind == 3 {
-            return gate_at(group, granted, chosen, skids, tanks, a, b, c);
+            return gate_granted(counts, group, granted, chosen, a, b, c);
         }
         return 32;
     }
     if kind == 0 {
-        return set_at(
-            levels,
-            sizes,
-            lattice,
-            skids,
-            tasks,
-            requirements,
-            a,
-            b,
-            c,
-            d,
-        );
+        return set_at(counts, sizes, lattice, levels, a, b, c, d);
     }
     if kind == 1 {
-        return start_at(
+        let number = start_at(
+            counts,
+            sizes,
             sets,
-            group,
-            level,
             lattice,
             requirement,
+            group,
+            level,
+            names,
             rights,
             may,
             levels,
@@ -75,14 +183,17 @@ pub fn turn<'a>(
             chosen,
             made,
             needs,
-            granted,
-            skids,
-            tasks,
-            groups,
-            tanks,
             a,
             b,
         );
+        if number == 0 {
+            grant_row(granted, rights, a as usize, b as usize);
+        }
+        return number;
     }
-    stop_at(running, chosen, granted, skids, a)
+    let number = stop_at(counts, running, chosen, a);
+    if number == 0 {
+        put_row(granted, a as usize, [0u8; 8]);
+    }
+    number
 }

@@ -1,61 +1,82 @@
 -- `starts::start_at` meets its contract: the early tests, and the row and its number, are the definition's. Assumes nothing.
-use mathlib.Core.Path.{refl}
+use mathlib.Core.Path.{_≡_, refl}
+use mathlib.Core.Bool.{true}
 use Prim.Native.Nat.{_<_}
 use native.Mathlib.Nat.{lt-of-lt-of-le}
-use Rattle.calls.proofs.Early.{passed, started-early, started-refused, started-0}
-use Rattle.calls.proofs.Grants.{task-put}
-use Rattle.calls.proofs.Made.{remembered, reached, by-choice}
+use Rattle.plant.specs.Valid.{Valid}
+use Rattle.rules.specs.declared.Monitor.{Monitor}
+use Rattle.rules.specs.Record.{recordOf, intact}
+use Rattle.choice.specs.Table.{groupChoice}
+use Rattle.calls.specs.Lent.{plantOf}
+use Rattle.calls.specs.Work.{needsIn, RowDone}
+use Rattle.calls.proofs.Ready.{plant-valid, links-there, groups-counted, levels-there}
+use Rattle.calls.proofs.Made.{all-made, reached, by-choice}
+use Rattle.calls.proofs.Start.{passed, refused-early, refused-late, accepted}
 use borrow.Author.Needs.{needs}
 use Rattle.starts.proofs.start_at.Statement.{statement}
 use Rattle.starts.proofs.start_at.Tie as tie
 
--- the skid and the task are there, once 21 to 26 are passed
-there : (i : tie.Else1) → (i .before .before .before .args .s < i .before .before .before .args .skids) × (i .before .before .before .args .t < i .before .before .before .args .tasks)
+-- the record that is lent, and that it passes test 20
+abbrev lent : tie.Start → Monitor
+lent s =
+    let a = s .args in
+    recordOf (plantOf (a .counts) (a .sizes .now) (a .sets .now) (a .lattice .now) (a .requirement .now) (a .group .now) (a .level .now) (a .names .now) (a .rights .now) (a .may .now)) (a .levels .now) (a .running .now) (a .chosen .now)
+
+passes : (s : tie.Start) → intact (lent s .plant) (lent s) ≡ true
+passes s = s .pre .0
+
+sound : (s : tie.Start) → Valid (lent s .plant)
+sound s = plant-valid (lent s) (passes s)
+
+start-early-requires : tie.Need-start-early-requires
+start-early-requires c κs = let f = sound (c .before) .counts in (f .skids-fit, f .tasks-fit)
+
+-- where the early tests are passed: the arguments, and that the skid and the task are there
+abbrev from : tie.Else1 → tie.Start
+from i = i .before .before .before
+
+there : (i : tie.Else1) → (from i .args .s < from i .args .counts .skids) × (from i .args .t < from i .args .counts .tasks)
 there i =
-    let a = i .before .before .before .args in
-    passed (a .may .now) (a .running .now) (a .skids) (a .tasks) (a .s) (a .t) (i .before .start-early .ensures) (i .if1 .left)
+    let a = from i .args in
+    passed (a .may .now) (a .running .now) (a .counts .skids) (a .counts .tasks) (a .s) (a .t) (i .before .start-early .ensures) (i .if1 .left)
 
-skid-fits : (i : tie.Else1) → i .before .before .before .args .s < 8
-skid-fits i = lt-of-lt-of-le (there i .0) (i .before .before .before .pre .0 .0)
+skid-fits : (i : tie.Else1) → from i .args .s < 8
+skid-fits i = lt-of-lt-of-le (there i .0) (sound (from i) .counts .skids-fit)
 
-task-fits : (i : tie.Else1) → i .before .before .before .args .t < 16
-task-fits i = lt-of-lt-of-le (there i .1) (i .before .before .before .pre .0 .1 .0)
+task-fits : (i : tie.Else1) → from i .args .t < 16
+task-fits i = lt-of-lt-of-le (there i .1) (sound (from i) .counts .tasks-fit)
 
 returns : tie.Need-returns
 returns c =
-    let p = c .before .before .before .pre .1 .1 .1 in
-    (started-early _ _ _ _ _ _ _ _ _ _ _ _ _ _ _ _ (c .before .start-early .ensures) (c .if1 .taken), (p .0, p .1 .0))
+    let s = c .before .before .before in
+    (refused-early (lent s) (passes s) (s .args .s) (s .args .t) (c .before .start-early .ensures) (c .if1 .taken), s .pre .1)
 
 make-choices-requires : tie.Need-make-choices-requires
 make-choices-requires c κs =
-    let s = c .before .before .before .before in
-    (s .pre .0 .1 .1, (s .pre .1 .0, (s .pre .1 .1 .0, s .pre .1 .1 .1 .0 .table)))
+    let s = from (c .before) in
+    let f = sound s .counts in
+    ((f .groups-fit, f .tanks-fit), (links-there (lent s) (passes s), ((groups-counted (lent s) (passes s), levels-there (lent s) (passes s)), s .pre .1 .table)))
 
 need-once-requires : tie.Need-need-once-requires
 need-once-requires c κs =
     let i = c .before .before .before in
-    let s = i .before .before .before in
-    ((task-fits i, s .pre .0 .1 .1 .0), s .pre .1 .1 .1 .0 .tasks)
+    ((task-fits i, sound (from i) .counts .groups-fit), from i .pre .1 .tasks)
 
 choose-row-requires : tie.Need-choose-row-requires
 choose-row-requires c κs =
     let n = c .before .before in
     let i = n .before .before .before .before in
-    let s = i .before .before .before in
-    let a = s .args in
-    let k = there i in
-    ((skid-fits i, task-fits i), (reached (a .lattice .now) (a .requirement .now) (a .rights .now) (a .levels .now) (a .groups) (a .s) (a .t) (n .need-once .result) (s .pre .0 .1 .1 .0) (s .pre .1 .0) (s .pre .1 .1 .1 .1 .1 (k .0) (k .1)) (n .need-once .ensures .0), refl))
+    let s = from i in
+    ((skid-fits i, task-fits i), (reached (lent s) (passes s) (s .args .s) (s .args .t) (n .need-once .result) (there i .0) (there i .1) (n .need-once .ensures .0), refl))
 
 returns-2 : tie.Need-returns-2
 returns-2 c =
     let n = c .before .before .before .before in
-    let m = n .before .before in
-    let i = m .before .before in
-    let s = i .before .before .before in
-    let a = s .args in
-    let k = there i in
-    let w = by-choice (a .sets .now) (a .group .now) (a .level .now) (a .lattice .now) (a .requirement .now) (a .rights .now) (a .levels .now) (a .groups) (a .tanks) (a .s) (a .t) (n .need-once .result) (s .pre .0 .1 .1 .0) (m .make-choices .ensures) (s .pre .1 .1 .1 .1 .1 (k .0) (k .1)) (n .need-once .ensures .0) (c .before .choose-row .ensures) in
-    (started-refused _ _ _ _ _ _ _ _ _ _ _ _ _ _ _ _ (i .before .start-early .ensures) (i .if1 .left) w (c .if2 .taken), (remembered (m .make-choices .ensures) (n .need-once .ensures .1), s .pre .1 .1 .1 .1 .0))
+    let h = n .before .before in
+    let i = h .before .before in
+    let s = from i in
+    let w = by-choice (lent s) (passes s) (s .args .s) (s .args .t) (n .need-once .result) (there i .0) (there i .1) (n .need-once .ensures .0) (h .make-choices .ensures) (c .before .choose-row .ensures) in
+    (refused-late (lent s) (passes s) (s .args .s) (s .args .t) (i .before .start-early .ensures) (i .if1 .left) w (c .if2 .taken), all-made (h .make-choices .ensures) (n .need-once .ensures .1))
 
 element-write-running : tie.Need-element-write-running
 element-write-running c = skid-fits (c .before .before .before .before .before .before .before .before)
@@ -63,24 +84,17 @@ element-write-running c = skid-fits (c .before .before .before .before .before .
 put-row-requires : tie.Need-put-row-requires
 put-row-requires c κs = skid-fits (c .before .before .before .before .before .before .before .before .before)
 
-grant-row-requires : tie.Need-grant-row-requires
-grant-row-requires c κs = let i = c .before .before .before .before .before .before .before .before .before .before .before in (skid-fits i, task-fits i)
-
 returns-3 : tie.Need-returns-3
 returns-3 c =
-    let j = c .before .before .before .before in
+    let j = c .before .before in
     let n = j .before .before .before .before in
-    let m = n .before .before in
-    let i = m .before .before in
-    let s = i .before .before .before in
-    let a = s .args in
-    let k = there i in
-    let w = by-choice (a .sets .now) (a .group .now) (a .level .now) (a .lattice .now) (a .requirement .now) (a .rights .now) (a .levels .now) (a .groups) (a .tanks) (a .s) (a .t) (n .need-once .result) (s .pre .0 .1 .1 .0) (m .make-choices .ensures) (s .pre .1 .1 .1 .1 .1 (k .0) (k .1)) (n .need-once .ensures .0) (j .before .choose-row .ensures) in (
-      started-0 _ _ _ _ _ _ _ _ _ _ _ _ _ _ _ _ (i .before .start-early .ensures) (i .if1 .left) w (j .if2 .left) refl (c .before .before .put-row .ensures),
-      (remembered (m .make-choices .ensures) (n .need-once .ensures .1), rw (c .grant-row .ensures) (task-put (a .rights .now) (a .running .now) (a .s) (skid-fits i) (s .pre .1 .1 .1 .1 .0) (a .t) (task-fits i))),
-    )
+    let h = n .before .before in
+    let i = h .before .before in
+    let s = from i in
+    let w = by-choice (lent s) (passes s) (s .args .s) (s .args .t) (n .need-once .result) (there i .0) (there i .1) (n .need-once .ensures .0) (h .make-choices .ensures) (j .before .choose-row .ensures) in
+    (accepted (lent s) (passes s) (s .args .s) (s .args .t) (i .before .start-early .ensures) (i .if1 .left) w (j .if2 .left) refl (c .put-row .ensures), all-made (h .make-choices .ensures) (n .need-once .ensures .1))
 
 pub start-at-spec : {M : Type 1} → statement M
 start-at-spec =
     tie.close
-    (tie.spec (λ c κs. search needs) returns make-choices-requires need-once-requires choose-row-requires returns-2 element-write-running put-row-requires grant-row-requires returns-3)
+    (tie.spec start-early-requires returns make-choices-requires need-once-requires choose-row-requires returns-2 element-write-running put-row-requires returns-3)

@@ -1,17 +1,25 @@
--- `steps::stop_at` meets its contract: each test is the definition's. Assumes nothing.
-use mathlib.Core.Path.{_∙_}
+-- `steps::stop_at` meets its contract: the test is the definition's, and the rows are emptied. Assumes nothing.
+use mathlib.Core.Path.{refl, _∙_}
+use native.Mathlib.Omega.{arith}
 use borrow.Author.Tests.{le-leb, lt-leb}
+use Rattle.calls.proofs.Steps.{skids-fit, stop-does}
 use borrow.Author.Needs.{needs}
 use Rattle.steps.proofs.stop_at.Statement.{statement}
 use Rattle.steps.proofs.stop_at.Tie as tie
 
 returns : tie.Need-returns
-returns c = let e = le-leb _ _ (c .if1 .taken) in (simp e, (simp e, (simp e, simp e)))
+returns c = λ m h. stop-does h _ (simp (le-leb _ _ (c .if1 .taken))) refl refl
+
+element-write-running : tie.Need-element-write-running
+element-write-running c = let s = c .before .before in omega (arith, c .if1 .left, skids-fit (s .pre .1 .passed))
+
+put-row-requires : tie.Need-put-row-requires
+put-row-requires c κs = let i = c .before in let s = i .before .before in omega (arith, i .if1 .left, skids-fit (s .pre .1 .passed))
 
 returns-2 : tie.Need-returns-2
-returns-2 c = let e = lt-leb _ _ (c .before .before .before .before .if1 .left) in (simp e, (simp e, (c .before .before .put-row .ensures ∙ simp e, c .put-row2 .ensures ∙ simp e)))
+returns-2 c = let i = c .before .before in λ m h. stop-does h _ (simp (lt-leb _ _ (i .if1 .left))) refl (c .put-row .ensures)
 
 pub stop-at-spec : {M : Type 1} → statement M
 stop-at-spec =
     tie.close
-    (tie.spec returns (λ c. search needs) (λ c κs. search needs) (λ c κs. search needs) returns-2)
+    (tie.spec returns element-write-running put-row-requires returns-2)

@@ -1,0 +1,93 @@
+-- The plant and the record of which parts are lent to a function, and what a call then promises. Only arrays and numbers can be lent, never a record,
+-- so a contract puts the record together here and speaks of it as the rules do.
+use mathlib.Core.Path.{_≡_}
+use Prim.Native.Nat.{ℕ}
+use mathlib.Core.Bool.{true, cond}
+use mathlib.Core.List.{List}
+use lib.Dec.{eqb}
+use Rattle.plant.specs.declared.Plant.{Plant}
+use Rattle.choice.specs.Table.{ChoicesIn, Tabled}
+use Rattle.rules.specs.declared.Monitor.{Monitor}
+use Rattle.rules.specs.Rules.{Call, answer}
+use Rattle.rules.specs.Rules as call
+use Rattle.rules.specs.Record.{viewOf, intact, stepped}
+use Rattle.calls.specs.declared.Counts.{Counts}
+use Rattle.calls.specs.Work.{Needed, Granted}
+
+abbrev pub countsOf : Plant → Counts
+countsOf P = record { lattices = P .lattices; requirements = P .requirements; groups = P .groups; tanks = P .tanks; tasks = P .tasks; skids = P .skids }
+
+-- the plant whose counts and arrays these are, in the order of its fields
+abbrev pub plantOf : Counts → List ℕ → List ℕ → List ℕ → List ℕ → List ℕ → List ℕ → List ℕ → List ℕ → List ℕ → Plant
+plantOf n sizes sets lattice requirement group level names rights may = record {
+  lattices = n .lattices;
+  requirements = n .requirements;
+  groups = n .groups;
+  tanks = n .tanks;
+  tasks = n .tasks;
+  skids = n .skids;
+  sizes = sizes;
+  sets = sets;
+  lattice = lattice;
+  requirement = requirement;
+  group = group;
+  level = level;
+  names = names;
+  rights = rights;
+  may = may;
+}
+
+-- A request: the kind and four bytes in the order of the call's arguments, unused ones ignored.
+abbrev pub callBy : ℕ → ℕ → ℕ → ℕ → ℕ → Call
+callBy kind a b c d =
+    cond (eqb kind 0) (call.set a b c d)
+    (cond (eqb kind 1) (call.start a b)
+    (cond (eqb kind 2) (call.stop a)
+    (cond (eqb kind 3) (call.gate a b c)
+    call.unknown)))
+
+-- Call c on record m answers this number and leaves this record, by the rules. The record has passed test 20 before.
+pub record Does (m : Monitor) (c : Call) (number : ℕ) (left : Monitor) : Type 0 where
+  pub answers : number ≡ answer (m .plant) (viewOf (m .plant) m) c
+  pub leaves : left ≡ stepped (m .plant) m c
+
+-- A record that passes test 20 and has these counts. A call to which a few parts are lent promises the same for every record that has them: it
+-- reads no others.
+pub record Passed (n : Counts) (m : Monitor) : Type 0 where
+  pub passes : intact (m .plant) m ≡ true
+  pub counts : countsOf (m .plant) ≡ n
+
+pub record SetReads (n : Counts) (sizes lattice levels : List ℕ) (m : Monitor) : Type 0 where
+  pub passed : Passed n m
+  pub sizes-are : m .plant .sizes ≡ sizes
+  pub lattice-is : m .plant .lattice ≡ lattice
+  pub levels-are : m .levels ≡ levels
+
+pub record StopReads (n : Counts) (running chosen : List ℕ) (m : Monitor) : Type 0 where
+  pub passed : Passed n m
+  pub running-is : m .running ≡ running
+  pub chosen-is : m .chosen ≡ chosen
+
+pub record GateReads (n : Counts) (group rights running chosen : List ℕ) (m : Monitor) : Type 0 where
+  pub passed : Passed n m
+  pub group-is : m .plant .group ≡ group
+  pub rights-are : m .plant .rights ≡ rights
+  pub running-is : m .running ≡ running
+  pub chosen-is : m .chosen ≡ chosen
+
+-- the same for a gate in a list, which reads the rights granted in place of the running task and its rights
+pub record GrantReads (n : Counts) (group granted chosen : List ℕ) (m : Monitor) : Type 0 where
+  pub passed : Passed n m
+  pub group-is : m .plant .group ≡ group
+  pub chosen-is : m .chosen ≡ chosen
+  pub grants : Granted (m .plant .rights) (m .running) (m .plant .skids) granted
+
+-- the table of the choices of a plant, from each group under each level
+abbrev pub Choices : Plant → List ℕ → Type 0
+Choices P made = ChoicesIn (P .sets) (P .group) (P .level) (P .lattice) (P .requirement) (P .groups) (P .tanks) made
+
+-- What a list remembers of its plant from one request to the next: the table of choices, made at the first start that passes 26, and the groups
+-- that each task needs.
+pub record Tables (P : Plant) (made needs : List ℕ) : Type 0 where
+  pub table : Tabled (P .sets) (P .group) (P .level) (P .lattice) (P .requirement) (P .groups) (P .tanks) made
+  pub tasks : Needed (P .rights) (P .groups) needs

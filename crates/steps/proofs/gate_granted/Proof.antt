@@ -1,0 +1,48 @@
+-- `steps::gate_granted` meets its contract: a gate that is not refused answers by the rights granted. Assumes nothing.
+use mathlib.Core.Path.{_≡_, sym, _∙_}
+use Rattle.rules.specs.declared.Monitor.{Monitor}
+use Rattle.rules.specs.Rules.{gate, refusal}
+use Rattle.rules.specs.Record.{viewOf}
+use borrow.Author.Tests.{not-true, not-false}
+use Rattle.calls.specs.Lent.{countsOf}
+use Rattle.calls.proofs.Steps.{gate-shut, gate-opens, gate-says-no, granted-requires, granted-told}
+use borrow.Author.Needs.{needs}
+use Rattle.steps.proofs.gate_granted.Statement.{statement}
+use Rattle.steps.proofs.gate_granted.Tie as tie
+
+returns : tie.Need-returns
+returns c =
+    let a = c .before .before .args in
+    λ m h. gate-shut m (a .s) (a .o) (a .r) (c .before .gate-refusal .ensures (m .plant) (viewOf (m .plant) m) (h .passed .counts)) (c .if1 .taken)
+
+-- the gate is not refused, on whatever record
+passes : (i : tie.Else1) (m : Monitor) → countsOf (m .plant) ≡ i .before .before .args .counts
+    → refusal (m .plant) (viewOf (m .plant) m) (gate (i .before .before .args .s) (i .before .before .args .o) (i .before .before .args .r)) ≡ 0
+passes i m e = sym (i .before .gate-refusal .ensures (m .plant) (viewOf (m .plant) m) e) ∙ i .if1 .left
+
+is-granted-requires : tie.Need-is-granted-requires
+is-granted-requires c κs =
+    let s = c .before .before in
+    let h = s .pre .1 in
+    granted-requires h (s .args .s) (s .args .o) (s .args .r) (passes c (s .pre .0) (h .passed .counts))
+
+returns-2 : tie.Need-returns-2
+returns-2 c =
+    let i = c .before .before in
+    let a = i .before .before .args in
+    λ m h.
+    let z = passes i m (h .passed .counts) in
+    gate-says-no m (a .s) (a .o) (a .r) z (sym (granted-told h (a .s) (a .o) (a .r) z) ∙ sym (c .before .is-granted .ensures) ∙ not-true _ (c .if2 .taken))
+
+returns-3 : tie.Need-returns-3
+returns-3 c =
+    let i = c .before .before in
+    let a = i .before .before .args in
+    λ m h.
+    let z = passes i m (h .passed .counts) in
+    gate-opens m (a .s) (a .o) (a .r) z (sym (granted-told h (a .s) (a .o) (a .r) z) ∙ sym (c .before .is-granted .ensures) ∙ not-false _ (c .if2 .left))
+
+pub gate-granted-spec : {M : Type 1} → statement M
+gate-granted-spec =
+    tie.close
+    (tie.spec (λ c κs. search needs) returns is-granted-requires returns-2 returns-3)
