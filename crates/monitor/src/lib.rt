@@ -10,7 +10,7 @@ use calls::Counts;
 use intact::is_intact;
 use plant::Plant;
 use rules::Monitor;
-use turns::call_at;
+use single::call_at;
 
 // The answer to a call, and the monitor after it.
 #[repr(C)]

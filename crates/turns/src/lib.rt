@@ -1,126 +1,18 @@
-// One request of any kind on a record that has passed test 20 and is lent in its parts: by itself, or in a list, which keeps beside the record what
-// the next request reads. Whoever makes it knows that the record passes: it was tested, or is the fresh one of an accepted plant, and no call makes it
-// fail.
+// One request of a list, on a record that has passed test 20 and is lent in its parts. The list keeps beside the record what the next request reads.
+// Whoever makes a request knows that the record passes: it is the fresh one of an accepted plant, and no call makes it fail.
 ghost use mathlib.Core.Path.{_≡_};
 ghost use mathlib.Core.Bool.{true};
 ghost use Rattle.rules.specs.declared.Monitor.{Monitor};
-ghost use Rattle.rules.specs.Rules.{start};
-ghost use Rattle.rules.specs.Record.{recordOf, withTask, intact};
+ghost use Rattle.rules.specs.Record.{recordOf, intact};
 ghost use Rattle.calls.specs.Lent.{plantOf, callBy, Does, Tables};
 ghost use Rattle.calls.specs.Work.{Granted};
 use calls::Counts;
 use starts::start_at;
-use steps::gate_at;
 use steps::gate_granted;
 use steps::grant_row;
 use steps::put_row;
 use steps::set_at;
 use steps::stop_at;
-
-// A start by itself makes its table of choices and keeps it for nobody.
-fn start_alone<'a>(
-    counts: Counts,
-    sizes: &'a [u8; 8],
-    sets: &'a [u16; 128],
-    lattice: &'a [u8; 8],
-    requirement: &'a [u8; 8],
-    group: &'a [u8; 64],
-    level: &'a [u8; 64],
-    names: &'a [u8; 16],
-    rights: &'a [u8; 128],
-    may: &'a [u16; 8],
-    levels: &[u8; 1024],
-    running: &mut [u8; 8],
-    chosen: &mut [u8; 64],
-    s: u8,
-    t: u8,
-) -> u8
-    ghost { Monitor }
-    requires { λ m. ⌜ recordOf (plantOf counts (now sizes) (now sets) (now lattice) (now requirement) (now group) (now level) (now names)
-        (now rights) (now may)) (now levels) (now running) (now chosen) ≡ m ⌝ }
-    requires { λ m. ⌜ intact (m .plant) m ≡ true ⌝ }
-    ensures { λ m r. ⌜ Does m (start s t) r (withTask m (now (running .exit)) (now (chosen .exit))) ⌝ }
-{
-    let mut made = [254u8; 128];
-    let mut needs = [0u16; 16];
-    start_at(
-        counts,
-        sizes,
-        sets,
-        lattice,
-        requirement,
-        group,
-        level,
-        names,
-        rights,
-        may,
-        levels,
-        running,
-        chosen,
-        &mut made,
-        &mut needs,
-        s,
-        t,
-    )
-}
-
-// One request by itself: 0 set, 1 start, 2 stop, 3 gate, and 32 for another.
-pub fn call_at<'a>(
-    counts: Counts,
-    sizes: &'a [u8; 8],
-    sets: &'a [u16; 128],
-    lattice: &'a [u8; 8],
-    requirement: &'a [u8; 8],
-    group: &'a [u8; 64],
-    level: &'a [u8; 64],
-    names: &'a [u8; 16],
-    rights: &'a [u8; 128],
-    may: &'a [u16; 8],
-    levels: &mut [u8; 1024],
-    running: &mut [u8; 8],
-    chosen: &mut [u8; 64],
-    kind: u8,
-    a: u8,
-    b: u8,
-    c: u8,
-    d: u8,
-) -> u8
-    ghost { Monitor }
-    requires { λ m. ⌜ recordOf (plantOf counts (now sizes) (now sets) (now lattice) (now requirement) (now group) (now level) (now names)
-        (now rights) (now may)) (now levels) (now running) (now chosen) ≡ m ⌝ }
-    requires { λ m. ⌜ intact (m .plant) m ≡ true ⌝ }
-    ensures { λ m r. ⌜ Does m (callBy kind a b c d) r (recordOf (m .plant) (now (levels .exit)) (now (running .exit)) (now (chosen .exit))) ⌝ }
-{
-    if 2 < kind {
-        if kind == 3 {
-            return gate_at(counts, group, rights, running, chosen, a, b, c);
-        }
-        return 32;
-    }
-    if kind == 0 {
-        return set_at(counts, sizes, lattice, levels, a, b, c, d);
-    }
-    if kind == 1 {
-        return start_alone(
-            counts,
-            sizes,
-            sets,
-            lattice,
-            requirement,
-            group,
-            level,
-            names,
-            rights,
-            may,
-            levels,
-            running,
-            chosen,
-            a,
-            b,
-        );
-    }
-    stop_at(counts, running, chosen, a)
-}
 
 // One request of a list. `made` has the table of choices and `needs` the groups of each task, once a start made them, and `granted` the rights of the
 // running tasks.

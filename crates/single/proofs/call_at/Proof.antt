@@ -1,4 +1,4 @@
--- `turns::call_at` meets its contract: each kind is its call's work. Assumes nothing.
+-- `single::call_at` meets its contract: each kind is its call's work. Assumes nothing.
 use mathlib.Core.Path.{_≡_, refl}
 use native.Mathlib.Omega.{arith}
 use borrow.Author.Tests.{ne-eqb}
@@ -7,8 +7,8 @@ use Rattle.rules.specs.Record.{recordOf}
 use Rattle.calls.specs.Lent.{plantOf, Passed, SetReads, StopReads, GateReads}
 use Rattle.calls.proofs.Steps.{unknown-does}
 use borrow.Author.Needs.{needs}
-use Rattle.turns.proofs.call_at.Statement.{statement}
-use Rattle.turns.proofs.call_at.Tie as tie
+use Rattle.single.proofs.call_at.Statement.{statement}
+use Rattle.single.proofs.call_at.Tie as tie
 
 -- the record that is lent, and that it passes test 20
 abbrev lent : tie.Start → Monitor

@@ -1,8 +1,8 @@
--- `turns::start_alone` meets its contract: no table is made before the start. Assumes nothing.
+-- `single::start_alone` meets its contract: no table is made before the start. Assumes nothing.
 use Rattle.calls.proofs.Made.{none-made}
 use borrow.Author.Needs.{needs}
-use Rattle.turns.proofs.start_alone.Statement.{statement}
-use Rattle.turns.proofs.start_alone.Tie as tie
+use Rattle.single.proofs.start_alone.Statement.{statement}
+use Rattle.single.proofs.start_alone.Tie as tie
 
 start-at-requires : tie.Need-start-at-requires
 start-at-requires c κs = (c .before .before .before .before .pre, none-made _)
