@@ -3,18 +3,18 @@ use mathlib.Core.Path.{_≡_, refl, sym, ap, _∙_}
 use mathlib.Core.Logic.{_≢_}
 use Prim.Native.Nat.{ℕ, _*_, _≤_, _<_}
 use native.Mathlib.Omega.{arith}
-use mathlib.Core.Bool.{Bool, true, false, cond, not}
+use mathlib.Core.Bool.{Bool, true, false, cond, not, _&&_}
 use mathlib.Core.List.{List, [], _∷_}
-use lib.Dec.{eqb, leb}
+use lib.Dec.{eqb, ltb, leb}
 use lib.ListN.{getD, replicate, getD-replicate}
 use lib.ListN as ListN
-use borrow.Author.Tests.{leb-false, eqb-true, eqb-false, ne-eqb}
+use borrow.Author.Tests.{lt-leb, le-leb, ltb-true, ltb-false, eqb-true, ne-eqb}
 use Rattle.base.specs.Chain.{Test, _gives_, first}
 use Rattle.base.proofs.Logic.{split}
 use Rattle.base.proofs.Below.{all-at}
 use Rattle.plant.specs.declared.Plant.{Plant}
 use Rattle.plant.specs.Valid.{Valid}
-use Rattle.plant.specs.Right.{rights}
+use Rattle.plant.specs.Right.{rights, validRight}
 use Rattle.plant.specs.Plant.{groupOf}
 use Rattle.choice.specs.Choice.{unset}
 use Rattle.rules.specs.declared.Monitor.{Monitor}
@@ -25,6 +25,7 @@ use Rattle.calls.specs.declared.Counts.{Counts}
 use Rattle.calls.specs.Lent.{countsOf, Does, Passed, SetReads, StopReads, GateReads, GrantReads}
 use Rattle.calls.specs.Work.{getRow, heldIn, grantedIn, taskKnown}
 use Rattle.calls.proofs.Rows.{row-same}
+use Rattle.calls.proofs.There.{no-right}
 use Rattle.calls.proofs.Views.{held-same}
 use Rattle.calls.proofs.Grants.{same-held}
 use Rattle.calls.proofs.Ready.{plant-valid, groups-there, tasks-known}
@@ -92,11 +93,24 @@ module _ {n : Counts} {running chosen : List ℕ} {m : Monitor} (R : StopReads n
       (λ h. rw h (ap (λ (l : List ℕ). withTask m (ListN.set (m .running) s unset) l) (row-same (m .chosen) (s * 8) (getRow (replicate 8 255)) (λ g. unset) 8 (λ g l. getD-replicate 8 g 255 0 l))))
       (λ h. rw h)))
 
--- gate
-pub gate-refused : {n : Counts} (s o r : ℕ) {x : ℕ} → x ≡ first (leb (n .skids) s gives 21 ∷ leb (n .tanks) o gives 29 ∷ leb rights r gives 30 ∷ [])
-    → (P : Plant) (vs : ℕ → View) → countsOf P ≡ n → x ≡ refusal P vs (gate s o r)
+-- gate: whether its items are there, and the number where one is not
+gate-tests : {n : Counts} (s o r : ℕ) (P : Plant) (vs : ℕ → View) → countsOf P ≡ n → refusal P vs (gate s o r) ≡ first (leb (n .skids) s gives 21 ∷ leb (n .tanks) o gives 29 ∷ leb rights r gives 30 ∷ [])
 unfolding refusal conditions
-gate-refused s o r e P vs h = e ∙ rw (ap (λ (x : Counts). x .skids) h, ap (λ (x : Counts). x .tanks) h)
+gate-tests s o r P vs h = rw (ap (λ (x : Counts). x .skids) h, ap (λ (x : Counts). x .tanks) h)
+
+pub items-there : {n : Counts} (s o r : ℕ) {x : Bool} → x ≡ (ltb s (n .skids) && ltb o (n .tanks)) && validRight r → (P : Plant) (vs : ℕ → View) → countsOf P ≡ n → x ≡ eqb (refusal P vs (gate s o r)) 0
+items-there {n} s o r e P vs h = e ∙ sym (rw (gate-tests s o r P vs h)
+    (split (ltb s (n .skids)) (λ a. rw (lt-leb _ _ (ltb-true _ _ a), a)
+    (split (ltb o (n .tanks)) (λ b. rw (lt-leb _ _ (ltb-true _ _ b), b)
+    (split (validRight r) (λ c. rw (sym (no-right r refl) ∙ ap not c, c)) (λ c. rw (sym (no-right r refl) ∙ ap not c, c))))
+    (λ b. rw (le-leb _ _ (ltb-false _ _ b), b))))
+    (λ a. rw (le-leb _ _ (ltb-false _ _ a), a))))
+
+pub item-missing : {n : Counts} (s o r : ℕ) {x : ℕ} → x ≡ cond (leb (n .skids) s) 21 (cond (leb (n .tanks) o) 29 30) → (P : Plant) (vs : ℕ → View) → countsOf P ≡ n → refusal P vs (gate s o r) ≢ 0 → x ≡ refusal P vs (gate s o r)
+item-missing {n} s o r e P vs h z = e ∙ sym (rw (gate-tests s o r P vs h)
+    (split (leb (n .skids) s) (λ a. rw a)
+    (λ a. rw a (split (leb (n .tanks) o) (λ b. rw b)
+    (λ b. rw b (split (leb rights r) (λ c. rw c) (λ c. absurd (z (gate-tests s o r P vs h ∙ rw (a, b, c))))))))))
 
 module _ (m : Monitor) (s o r : ℕ) where
   abbrev number : ℕ
@@ -107,9 +121,9 @@ module _ (m : Monitor) (s o r : ℕ) where
   unfolding stepped changed
   gate-leaves = split (eqb number 0) (λ h. rw h) (λ h. rw h)
 
-  pub gate-shut : {x : ℕ} → x ≡ number → x ≢ 0 → Does m (gate s o r) x m
+  pub gate-shut : {x : ℕ} → x ≡ number → number ≢ 0 → Does m (gate s o r) x m
   unfolding answer
-  gate-shut e n = record { answers = e ∙ sym (rw (ne-eqb number 0 (λ z. n (e ∙ z)))); leaves = gate-leaves }
+  gate-shut e n = record { answers = e ∙ sym (rw (ne-eqb number 0 n)); leaves = gate-leaves }
 
   pub gate-opens : number ≡ 0 → holds (m .plant) (viewOf (m .plant) m s) o r ≡ true → Does m (gate s o r) 0 m
   unfolding answer granted

@@ -1,7 +1,9 @@
 // The work of set, stop and gate on the parts of a record that are lent to it, and a skid's row of choices or of rights granted.
 ghost use mathlib.Core.Path.{_≡_};
+ghost use mathlib.Core.Logic.{_≢_};
 ghost use mathlib.Core.Bool.{true, cond};
 ghost use Prim.Native.Nat.{ℕ, _*_, _<_};
+ghost use lib.Dec.{eqb};
 ghost use lib.ListN.{getD};
 ghost use Rattle.plant.specs.declared.Plant.{Plant};
 ghost use Rattle.rules.specs.declared.Monitor.{Monitor};
@@ -55,16 +57,18 @@ pub fn set_at<'a>(
     0
 }
 
-// Gate up to 30: 21, 29, 30, or 0 where the skid, the tank and the right are there.
-fn gate_refusal(counts: Counts, s: u8, o: u8, r: u8) -> u8
-    ensures { λ x. ⌜ ((P : Plant) (vs : ℕ → View) → countsOf P ≡ counts → x ≡ refusal P vs (gate s o r)) ⌝ }
+// Whether the skid, the tank and the right of a gate are there. The three are tested at once, so that a gate that is not refused asks once.
+fn gate_there(counts: Counts, s: u8, o: u8, r: u8) -> bool
+    ensures { λ x. ⌜ ((P : Plant) (vs : ℕ → View) → countsOf P ≡ counts → x ≡ eqb (refusal P vs (gate s o r)) 0) ⌝ }
 {
-    let no_skid = counts.skids <= s;
-    let no_tank = counts.tanks <= o;
-    if no_skid | no_tank | !Right::valid(r) {
-        return missing(no_skid, no_tank, 29, 30);
-    }
-    0
+    (s < counts.skids) & (o < counts.tanks) & Right::valid(r)
+}
+
+// The number of a gate that is refused: 21, 29 or 30.
+fn gate_refusal(counts: Counts, s: u8, o: u8, r: u8) -> u8
+    ensures { λ x. ⌜ ((P : Plant) (vs : ℕ → View) → countsOf P ≡ counts → refusal P vs (gate s o r) ≢ 0 → x ≡ refusal P vs (gate s o r)) ⌝ }
+{
+    missing(counts.skids <= s, counts.tanks <= o, 29, 30)
 }
 
 // Gate by the record: 21, 29, 30; 0 where the skid holds the right, and else 33.
@@ -82,9 +86,8 @@ pub fn gate_at<'a, 'b>(
     ensures { λ x. ⌜ ((m : Monitor) → GateReads counts (now (group .entry)) (now (rights .entry)) (now (running .entry)) (now (chosen .entry)) m
         → Does m (gate s o r) x m) ⌝ }
 {
-    let number = gate_refusal(counts, s, o, r);
-    if number != 0 {
-        return number;
+    if !gate_there(counts, s, o, r) {
+        return gate_refusal(counts, s, o, r);
     }
     if !is_held(group, rights, running, chosen, s as usize, o, r) {
         return 33;
@@ -106,9 +109,8 @@ pub fn gate_granted<'a, 'b>(
     ensures { λ x. ⌜ ((m : Monitor) → GrantReads counts (now (group .entry)) (now (granted .entry)) (now (chosen .entry)) m
         → Does m (gate s o r) x m) ⌝ }
 {
-    let number = gate_refusal(counts, s, o, r);
-    if number != 0 {
-        return number;
+    if !gate_there(counts, s, o, r) {
+        return gate_refusal(counts, s, o, r);
     }
     if !is_granted(group, granted, chosen, s as usize, o, r) {
         return 33;

@@ -3,22 +3,25 @@ use mathlib.Core.Path.{_≡_, sym, _∙_}
 use Rattle.rules.specs.declared.Monitor.{Monitor}
 use Rattle.rules.specs.Rules.{gate, refusal}
 use Rattle.rules.specs.Record.{viewOf}
-use borrow.Author.Tests.{not-true, not-false}
+use borrow.Author.Tests.{eqb-true, eqb-false, not-true, not-false}
 use Rattle.calls.specs.Lent.{countsOf}
 use Rattle.calls.proofs.Steps.{gate-shut, gate-opens, gate-says-no, held-requires, held-told}
 use borrow.Author.Needs.{needs}
 use Rattle.steps.proofs.gate_at.Statement.{statement}
 use Rattle.steps.proofs.gate_at.Tie as tie
 
-returns : tie.Need-returns
-returns c =
-    let a = c .before .before .args in
-    λ m h. gate-shut m (a .s) (a .o) (a .r) (c .before .gate-refusal .ensures (m .plant) (viewOf (m .plant) m) (h .passed .counts)) (c .if1 .taken)
-
 -- the gate is not refused, on whatever record
 passes : (i : tie.Else1) (m : Monitor) → countsOf (m .plant) ≡ i .before .before .args .counts
     → refusal (m .plant) (viewOf (m .plant) m) (gate (i .before .before .args .s) (i .before .before .args .o) (i .before .before .args .r)) ≡ 0
-passes i m e = sym (i .before .gate-refusal .ensures (m .plant) (viewOf (m .plant) m) e) ∙ i .if1 .left
+passes i m e = eqb-true _ _ (sym (i .before .gate-there .ensures (m .plant) (viewOf (m .plant) m) e) ∙ not-false _ (i .if1 .left))
+
+returns : tie.Need-returns
+returns c =
+    let t = c .before in
+    let a = t .before .before .args in
+    λ m h.
+    let z = eqb-false _ _ (sym (t .before .gate-there .ensures (m .plant) (viewOf (m .plant) m) (h .passed .counts)) ∙ not-true _ (t .if1 .taken)) in
+    gate-shut m (a .s) (a .o) (a .r) (c .gate-refusal .ensures (m .plant) (viewOf (m .plant) m) (h .passed .counts) z) z
 
 is-held-requires : tie.Need-is-held-requires
 is-held-requires c κs =
@@ -45,4 +48,4 @@ returns-3 c =
 pub gate-at-spec : {M : Type 1} → statement M
 gate-at-spec =
     tie.close
-    (tie.spec (λ c κs. search needs) returns is-held-requires returns-2 returns-3)
+    (tie.spec (λ c κs. search needs) (λ c κs. search needs) returns is-held-requires returns-2 returns-3)

@@ -48,10 +48,9 @@ returns c =
 returns-2 : tie.Need-returns-2
 returns-2 c =
     let t = c .before in
-    let k = t .before .args .kind in
-    (
+    let k = t .before .args .kind in (
       rw (ne-eqb k 0 (λ z. omega (arith, t .if1 .taken)), ne-eqb k 1 (λ z. omega (arith, t .if1 .taken)), ne-eqb k 2 (λ z. omega (arith, t .if1 .taken)), ne-eqb k 3 (c .if2 .left))
-      (unknown-does (lent (t .before))),
+          (unknown-does (lent (t .before))),
       t .before .pre .1,
     )
 
