@@ -67,9 +67,9 @@ pub fn call_tested(m: Monitor, kind: u8, a: u8, b: u8, c: u8, d: u8) -> Answered
     ensures { λ r. ⌜ r ≡ stepOf m (callBy kind a b c d) ⌝ }
 {
     let p = m.plant;
-    let mut levels = m.levels;
     let mut running = m.running;
     let mut chosen = m.chosen;
+    let mut next = m;
     let counts = Counts {
         lattices: p.lattices,
         requirements: p.requirements,
@@ -89,7 +89,7 @@ pub fn call_tested(m: Monitor, kind: u8, a: u8, b: u8, c: u8, d: u8) -> Answered
         &p.names,
         &p.rights,
         &p.may,
-        &mut levels,
+        &mut next.levels,
         &mut running,
         &mut chosen,
         kind,
@@ -98,14 +98,11 @@ pub fn call_tested(m: Monitor, kind: u8, a: u8, b: u8, c: u8, d: u8) -> Answered
         c,
         d,
     );
+    next.running = running;
+    next.chosen = chosen;
     Answered {
         answer: answer,
-        monitor: Monitor {
-            plant: p,
-            levels: levels,
-            running: running,
-            chosen: chosen,
-        },
+        monitor: next,
     }
 }
 

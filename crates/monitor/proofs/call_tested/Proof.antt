@@ -7,7 +7,7 @@ use Rattle.monitor.proofs.call_tested.Tie as tie
 
 -- what the call was given
 abbrev given : tie.After-chosen2 → tie.Start
-given c = c .before .before .before .before .before .before .before .before .before .before .before .before .before .before .before .before .before
+given c = c .before .before .before .before .before .before .before .before .before .before .before .before .before .before .before .before
 
 call-at-requires : tie.Need-call-at-requires
 call-at-requires c κs = given c .pre
