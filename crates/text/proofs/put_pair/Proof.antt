@@ -1,10 +1,10 @@
--- `lines::put_pair` meets its contract. Assumes nothing.
+-- `text::put_pair` meets its contract. Assumes nothing.
 use mathlib.Core.List.{[]}
 use borrow.Author.Needs.{needs}
 use Rattle.printing.specs.Decimal.{decimal}
 use Rattle.printing.proofs.Lines.{first-room, others-room, others-wrote}
-use Rattle.lines.proofs.put_pair.Statement.{statement}
-use Rattle.lines.proofs.put_pair.Tie as tie
+use Rattle.text.proofs.put_pair.Statement.{statement}
+use Rattle.text.proofs.put_pair.Tie as tie
 
 put-field-requires : tie.Need-put-field-requires
 put-field-requires c κs =

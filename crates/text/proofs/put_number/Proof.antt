@@ -1,4 +1,4 @@
--- `lines::put_number` meets its contract. Assumes nothing.
+-- `text::put_number` meets its contract. Assumes nothing.
 use mathlib.Core.Path.{_≡_, sym}
 use native.Mathlib.Omega.{arith}
 use lib.ListN.{length}
@@ -7,8 +7,8 @@ use Rattle.base.proofs.Written.{wrote-as}
 use Rattle.printing.specs.Decimal.{decimal}
 use Rattle.printing.proofs.Decimal.{decimal-small, some-digit}
 use Rattle.printing.proofs.Number.{fiveLengths, places-length, wrote-places}
-use Rattle.lines.proofs.put_number.Statement.{statement}
-use Rattle.lines.proofs.put_number.Tie as tie
+use Rattle.text.proofs.put_number.Statement.{statement}
+use Rattle.text.proofs.put_number.Tie as tie
 
 put-digit-requires : tie.Need-put-digit-requires
 put-digit-requires c κs = (search needs, omega (arith, some-digit (c .before .before .before .args .n)))

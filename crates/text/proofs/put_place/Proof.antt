@@ -1,11 +1,11 @@
--- `lines::put_place` meets its contract. Assumes nothing.
+-- `text::put_place` meets its contract. Assumes nothing.
 use native.Mathlib.Nat.{mod-lt}
 use native.Mathlib.Omega.{arith}
 use borrow.Author.Needs.{needs}
 use borrow.Author.Tests.{eq-eqb, ne-eqb}
 use Rattle.base.proofs.Collected.{wrote-nothing}
-use Rattle.lines.proofs.put_place.Statement.{statement}
-use Rattle.lines.proofs.put_place.Tie as tie
+use Rattle.text.proofs.put_place.Statement.{statement}
+use Rattle.text.proofs.put_place.Tie as tie
 
 returns : tie.Need-returns
 returns c = rw (eq-eqb (c .before .before .args .m) 0 (c .if1 .taken)) (wrote-nothing _ _)

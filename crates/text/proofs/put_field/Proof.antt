@@ -1,11 +1,11 @@
--- `lines::put_field` meets its contract. Assumes nothing.
+-- `text::put_field` meets its contract. Assumes nothing.
 use mathlib.Core.List.{[], _∷_}
 use native.Mathlib.Omega.{arith}
 use borrow.Author.Needs.{needs}
 use Rattle.base.proofs.Written.{rest-room, joined}
 use Rattle.printing.specs.Decimal.{decimal}
-use Rattle.lines.proofs.put_field.Statement.{statement}
-use Rattle.lines.proofs.put_field.Tie as tie
+use Rattle.text.proofs.put_field.Statement.{statement}
+use Rattle.text.proofs.put_field.Tie as tie
 
 put-byte-requires : tie.Need-put-byte-requires
 put-byte-requires c κs =

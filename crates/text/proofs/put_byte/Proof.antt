@@ -1,8 +1,8 @@
--- `lines::put_byte` meets its contract. Assumes nothing.
+-- `text::put_byte` meets its contract. Assumes nothing.
 use borrow.Author.Needs.{needs}
 use Rattle.base.proofs.Written.{wrote-byte}
-use Rattle.lines.proofs.put_byte.Statement.{statement}
-use Rattle.lines.proofs.put_byte.Tie as tie
+use Rattle.text.proofs.put_byte.Statement.{statement}
+use Rattle.text.proofs.put_byte.Tie as tie
 
 returns : tie.Need-returns
 returns c = wrote-byte (c .args .text .now) (c .args .at) (c .args .byte) (c .pre)
