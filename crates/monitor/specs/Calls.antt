@@ -3,7 +3,7 @@ use Prim.Native.Nat.{ℕ}
 use mathlib.Core.Bool.{cond}
 use mathlib.Core.List.{List}
 use lib.Dec.{eqb}
-use Rattle.reader.specs.Reading.{readingOf}
+use Rattle.opening.specs.Reading.{readingOf}
 use Rattle.rules.specs.declared.Monitor.{Monitor}
 use Rattle.rules.specs.Rules.{Call}
 use Rattle.rules.specs.Record.{fresh, reply, after}

@@ -11,9 +11,9 @@ use Rattle.base.specs.Overlay.{overlay}
 use Rattle.base.proofs.Overlaid.{overlay-at, overlay-past, overlay-length}
 use Rattle.plant.specs.declared.Plant.{Plant}
 use Rattle.plant.specs.Checks.{plantRefusal, Sound}
-use Rattle.reader.specs.Reading.{readingOf}
-use Rattle.reader.specs.Admitted.{Admitted}
-use Rattle.reader.proofs.Opening.{opens}
+use Rattle.opening.specs.Reading.{readingOf}
+use Rattle.opening.specs.Admitted.{Admitted}
+use Rattle.opening.proofs.Opening.{opens}
 use Rattle.rules.specs.declared.Monitor.{Monitor}
 use Rattle.rules.specs.Rules.{Call, gate, unknown, answer}
 use Rattle.rules.specs.Record.{fresh, reply, final, viewOf, intact}

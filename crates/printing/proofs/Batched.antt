@@ -15,7 +15,7 @@ use Rattle.base.proofs.Overlaid.{overlay-at}
 use Rattle.base.proofs.Collected.{collect-same}
 use Rattle.layout.specs.Layout.{byteAt}
 use Rattle.plant.specs.declared.Plant.{Plant}
-use Rattle.reader.specs.Reading.{readingOf}
+use Rattle.opening.specs.Reading.{readingOf}
 use Rattle.rules.specs.Rules.{Call}
 use Rattle.rules.specs.History.{past, dues, history, note}
 use Rattle.batch.proofs.Served.{calls-length}

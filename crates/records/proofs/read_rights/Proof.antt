@@ -1,11 +1,11 @@
--- `reader::read_rights` meets its contract: the cells of records that are there lie within them. Assumes nothing.
+-- `records::read_rights` meets its contract: the cells of records that are there lie within them. Assumes nothing.
 use mathlib.Core.Path.{_∙_}
 use native.Mathlib.Omega.{arith}
 use Rattle.layout.proofs.Parts.{records-cells}
-use Rattle.reader.specs.Reading.{taskRights}
+use Rattle.opening.specs.Reading.{taskRights}
 use borrow.Author.Needs.{needs}
-use Rattle.reader.proofs.read_rights.Statement.{statement}
-use Rattle.reader.proofs.read_rights.Tie as tie
+use Rattle.records.proofs.read_rights.Statement.{statement}
+use Rattle.records.proofs.read_rights.Tie as tie
 
 bytes-into-requires : tie.Need-bytes-into-requires
 bytes-into-requires c κs =

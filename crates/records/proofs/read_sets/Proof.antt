@@ -1,11 +1,11 @@
--- `reader::read_sets` meets its contract: the cells of records that are there lie within them. Assumes nothing.
+-- `records::read_sets` meets its contract: the cells of records that are there lie within them. Assumes nothing.
 use mathlib.Core.Path.{_∙_}
 use native.Mathlib.Omega.{arith}
 use Rattle.layout.proofs.Parts.{records-cells}
-use Rattle.reader.specs.Reading.{latticeSets}
+use Rattle.opening.specs.Reading.{latticeSets}
 use borrow.Author.Needs.{needs}
-use Rattle.reader.proofs.read_sets.Statement.{statement}
-use Rattle.reader.proofs.read_sets.Tie as tie
+use Rattle.records.proofs.read_sets.Statement.{statement}
+use Rattle.records.proofs.read_sets.Tie as tie
 
 words-into-requires : tie.Need-words-into-requires
 words-into-requires c κs =

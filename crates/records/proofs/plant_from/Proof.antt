@@ -1,12 +1,12 @@
--- `reader::plant_from` meets its contract: each reader gets its section's part and count. Assumes nothing.
+-- `records::plant_from` meets its contract: each reader gets its section's part and count. Assumes nothing.
 use mathlib.Core.Path.{ap₂, _∙_}
 use native.Mathlib.Omega.{arith}
 use Rattle.layout.specs.Layout.{tanks, tasks, skids}
 use Rattle.layout.proofs.Parts.{header-there, part-records}
-use Rattle.reader.specs.Reading.{latticeSize, latticeSets, requirementLattice, groupRequirement, tankGroup, tankLevel, taskNames, taskRights, skidTasks, bytesIn, wordsIn}
+use Rattle.opening.specs.Reading.{latticeSize, latticeSets, requirementLattice, groupRequirement, tankGroup, tankLevel, taskNames, taskRights, skidTasks, bytesIn, wordsIn}
 use borrow.Author.Needs.{needs}
-use Rattle.reader.proofs.plant_from.Statement.{statement}
-use Rattle.reader.proofs.plant_from.Tie as tie
+use Rattle.records.proofs.plant_from.Statement.{statement}
+use Rattle.records.proofs.plant_from.Tie as tie
 
 -- The later needs are too far from the start for `search`: k is the place where the parts of lattices, tanks and tasks have been taken.
 read-tanks-requires : tie.Need-read-tanks-requires

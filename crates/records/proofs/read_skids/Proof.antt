@@ -1,10 +1,10 @@
--- `reader::read_skids` meets its contract: the cells of records that are there lie within them. Assumes nothing.
+-- `records::read_skids` meets its contract: the cells of records that are there lie within them. Assumes nothing.
 use mathlib.Core.Path.{_∙_}
 use native.Mathlib.Omega.{arith}
 use Rattle.layout.proofs.Parts.{records-cells}
 use borrow.Author.Needs.{needs}
-use Rattle.reader.proofs.read_skids.Statement.{statement}
-use Rattle.reader.proofs.read_skids.Tie as tie
+use Rattle.records.proofs.read_skids.Statement.{statement}
+use Rattle.records.proofs.read_skids.Tie as tie
 
 words-into-requires : tie.Need-words-into-requires
 words-into-requires c κs =

@@ -10,7 +10,7 @@ use Rattle.layout.specs.Header.{placing}
 use Rattle.plant.specs.declared.Plant.{Plant}
 use Rattle.plant.specs.Plant.{noPlant}
 use Rattle.plant.specs.Checks.{recordChecks}
-use Rattle.reader.specs.declared.Reading.{Reading}
+use Rattle.opening.specs.declared.Reading.{Reading}
 
 -- Cells that each record of a section has: `run` of them, from its byte `from` on.
 pub record Cell : Type 0 where

@@ -12,8 +12,8 @@ use Rattle.layout.specs.Header.{placing, placingRefusal, countsOk}
 use Rattle.layout.proofs.Header.{counts-back, counts-in-range}
 use Rattle.plant.specs.declared.Plant.{Plant}
 use Rattle.plant.specs.Checks.{countsIn, recordChecks, plantRefusal}
-use Rattle.reader.specs.declared.Reading.{Reading}
-use Rattle.reader.specs.Reading.{plantOf, latticeZeros, otherZeros, refusedWith, openingRefusal, readingOf}
+use Rattle.opening.specs.declared.Reading.{Reading}
+use Rattle.opening.specs.Reading.{plantOf, latticeZeros, otherZeros, refusedWith, openingRefusal, readingOf}
 
 module _ (file : List ℕ) where
   -- the plant has the file's counts
