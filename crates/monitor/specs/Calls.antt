@@ -7,7 +7,7 @@ use Rattle.opening.specs.Reading.{readingOf}
 use Rattle.rules.specs.declared.Monitor.{Monitor}
 use Rattle.rules.specs.Rules.{Call}
 use Rattle.rules.specs.Record.{fresh, reply, after}
-use Rattle.intact.specs.Zeros.{zeroMonitor}
+use Rattle.test20.specs.Zeros.{zeroMonitor}
 use Rattle.monitor.specs.declared.Answered.{Answered}
 
 -- One call on any record whatever: test 20 first, then the call's conditions; a refusal gives the record back as it was.
