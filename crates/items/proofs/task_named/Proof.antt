@@ -1,4 +1,4 @@
--- `checks::task_named` meets its contract: a scan over the groups. Assumes nothing.
+-- `items::task_named` meets its contract: a scan over the groups. Assumes nothing.
 use Prim.Native.Nat.{ℕ, _+_, _*_, _≤_, _-_}
 use mathlib.Core.Path.{_≡_}
 use mathlib.Core.Bool.{true}
@@ -8,8 +8,8 @@ use Rattle.base.proofs.Scan.{scan}
 use Rattle.plant.specs.Checks.{requirementNamedIn}
 use Rattle.plant.proofs.Links.{entry-at}
 use borrow.Author.Needs.{needs}
-use Rattle.checks.proofs.task_named.Statement.{statement}
-use Rattle.checks.proofs.task_named.Tie as tie
+use Rattle.items.proofs.task_named.Statement.{statement}
+use Rattle.items.proofs.task_named.Tie as tie
 
 abbrev Inv-loop : tie.InvT-loop
 Inv-loop names rights requirement groups t g₀ g = (g ≤ groups) × (allBelow (λ (x : ℕ). requirementNamedIn names (getD rights (t * 8 + x) 0) (getD requirement x 0)) g ≡ true)

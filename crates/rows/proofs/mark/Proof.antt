@@ -1,4 +1,4 @@
--- `joins::mark` meets its contract, by the laws of a fill. Assumes nothing.
+-- `rows::mark` meets its contract, by the laws of a fill. Assumes nothing.
 use Prim.Native.Nat.{_≤_, _-_}
 use mathlib.Core.Path.{_≡_}
 use mathlib.Core.Bool.{cond}
@@ -8,8 +8,8 @@ use borrow.Author.Needs.{needs}
 use Rattle.base.specs.Fill.{fill}
 use Rattle.base.proofs.Filled.{fill-map, filled}
 use Rattle.lattice.specs.Sets.{isSet, markedAt}
-use Rattle.joins.proofs.mark.Statement.{statement}
-use Rattle.joins.proofs.mark.Tie as tie
+use Rattle.rows.proofs.mark.Statement.{statement}
+use Rattle.rows.proofs.mark.Tie as tie
 
 abbrev Inv-loop : tie.InvT-loop
 Inv-loop row₀ s x k own number j₀ row j = (j ≤ 16) × (row ≡ fill (markedAt s x k row₀) row₀ j)

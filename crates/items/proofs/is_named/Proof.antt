@@ -1,8 +1,8 @@
--- `checks::is_named` meets its contract. Assumes nothing.
+-- `items::is_named` meets its contract. Assumes nothing.
 use borrow.Author.Tests.{eq-eqb, ne-eqb}
 use borrow.Author.Needs.{needs}
-use Rattle.checks.proofs.is_named.Statement.{statement}
-use Rattle.checks.proofs.is_named.Tie as tie
+use Rattle.items.proofs.is_named.Statement.{statement}
+use Rattle.items.proofs.is_named.Tie as tie
 
 returns : tie.Need-returns
 returns c = simp (eq-eqb _ _ (c .if1 .taken))

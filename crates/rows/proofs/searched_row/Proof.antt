@@ -1,4 +1,4 @@
--- `joins::searched_row` meets its contract: the row has the joins among the levels passed. Assumes nothing.
+-- `rows::searched_row` meets its contract: the row has the joins among the levels passed. Assumes nothing.
 use Prim.Native.Nat.{_≤_, _-_}
 use mathlib.Core.Path.{_≡_, sym, ap, _∙_}
 use mathlib.Core.Logic.{⊎-elim}
@@ -8,8 +8,8 @@ use lib.ListN.{getD}
 use borrow.Author.Needs.{needs}
 use Rattle.lattice.specs.Sets.{marked}
 use Rattle.lattice.proofs.Marked.{rowTo, row-starts, row-marked, row-passed, row-ends}
-use Rattle.joins.proofs.searched_row.Statement.{statement}
-use Rattle.joins.proofs.searched_row.Tie as tie
+use Rattle.rows.proofs.searched_row.Statement.{statement}
+use Rattle.rows.proofs.searched_row.Tie as tie
 
 abbrev Inv-loop : tie.InvT-loop
 Inv-loop s n i x found₀ k₀ found k = (k ≤ n) × (found ≡ rowTo s i k)

@@ -1,12 +1,12 @@
--- `joins::join_row` meets its contract: where the two sets of level i have every level, each level is under i or above it. Assumes nothing.
+-- `rows::join_row` meets its contract: where the two sets of level i have every level, each level is under i or above it. Assumes nothing.
 use mathlib.Core.Path.{ap, _∙_}
 use mathlib.Core.List.{List}
 use Prim.Native.Nat.{ℕ}
 use borrow.Author.Needs.{needs}
 use Rattle.lattice.specs.Sets.{upperRow}
 use Rattle.lattice.proofs.Compared.{all-compared, upper-joins}
-use Rattle.joins.proofs.join_row.Statement.{statement}
-use Rattle.joins.proofs.join_row.Tie as tie
+use Rattle.rows.proofs.join_row.Statement.{statement}
+use Rattle.rows.proofs.join_row.Tie as tie
 
 no-search : tie.Need-returns
 no-search c =

@@ -1,4 +1,4 @@
--- `checks::levels_distinct` meets its contract: the places taken are those of the tanks passed. Assumes nothing.
+-- `items::levels_distinct` meets its contract: the places taken are those of the tanks passed. Assumes nothing.
 use Prim.Native.Nat.{ℕ, _≤_, _-_}
 use mathlib.Core.Path.{_≡_}
 use mathlib.Core.Bool.{true, not}
@@ -9,8 +9,8 @@ use Rattle.base.proofs.Below.{all-at}
 use Rattle.base.proofs.Scan.{all-none, all-more, all-stops, all-ends}
 use Rattle.plant.specs.Checks.{atOneLevel, levelsDistinct}
 use Rattle.plant.proofs.Places.{takenBy, taken-none, taken-more, is-taken, is-free}
-use Rattle.checks.proofs.levels_distinct.Statement.{statement}
-use Rattle.checks.proofs.levels_distinct.Tie as tie
+use Rattle.items.proofs.levels_distinct.Statement.{statement}
+use Rattle.items.proofs.levels_distinct.Tie as tie
 
 abbrev Inv-loop : tie.InvT-loop
 Inv-loop p taken₀ n a₀ taken a =

@@ -1,4 +1,4 @@
--- `joins::is_all` meets its contract: the number one under 2 ^ n has each bit below n. Assumes nothing.
+-- `rows::is_all` meets its contract: the number one under 2 ^ n has each bit below n. Assumes nothing.
 use Prim.Native.Nat.{ℕ, _+_, _<_}
 use mathlib.Core.Path.{sym, ap, _∙_}
 use native.Mathlib.Nat.{one-mul}
@@ -7,8 +7,8 @@ use lib.Pow.{shl-exact}
 use borrow.Author.Needs.{needs}
 use borrow.Author.Tests.{eqb-true}
 use Rattle.lattice.proofs.Compared.{all-bits}
-use Rattle.joins.proofs.is_all.Statement.{statement}
-use Rattle.joins.proofs.is_all.Tie as tie
+use Rattle.rows.proofs.is_all.Statement.{statement}
+use Rattle.rows.proofs.is_all.Tie as tie
 
 returns : tie.Need-returns
 returns c e =

@@ -1,4 +1,4 @@
--- `joins::upper_row` meets its contract, by the laws of a fill. Assumes nothing.
+-- `rows::upper_row` meets its contract, by the laws of a fill. Assumes nothing.
 use Prim.Native.Nat.{_≤_, _-_}
 use mathlib.Core.Path.{_≡_}
 use mathlib.Core.Bool.{cond}
@@ -7,8 +7,8 @@ use borrow.Author.Needs.{needs}
 use Rattle.base.specs.Fill.{fill}
 use Rattle.base.proofs.Filled.{filled}
 use Rattle.lattice.specs.Sets.{underIn}
-use Rattle.joins.proofs.upper_row.Statement.{statement}
-use Rattle.joins.proofs.upper_row.Tie as tie
+use Rattle.rows.proofs.upper_row.Statement.{statement}
+use Rattle.rows.proofs.upper_row.Tie as tie
 
 abbrev Inv-loop : tie.InvT-loop
 Inv-loop s numbers i own row₀ j₀ row j = (j ≤ 16) × (row ≡ fill (λ k. cond (underIn s k i) i (getD numbers k 0)) row₀ j)

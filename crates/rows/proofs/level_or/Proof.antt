@@ -1,7 +1,7 @@
--- `joins::level_or` meets its contract. Assumes nothing.
+-- `rows::level_or` meets its contract. Assumes nothing.
 use borrow.Author.Tests.{eq-eqb, ne-eqb}
-use Rattle.joins.proofs.level_or.Statement.{statement}
-use Rattle.joins.proofs.level_or.Tie as tie
+use Rattle.rows.proofs.level_or.Statement.{statement}
+use Rattle.rows.proofs.level_or.Tie as tie
 
 same : tie.Need-returns
 same c = rw (eq-eqb _ _ (c .if1 .taken))

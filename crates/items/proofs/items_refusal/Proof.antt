@@ -1,11 +1,11 @@
--- `checks::items_refusal` meets its contract: each test is its check, in their order. Assumes nothing.
+-- `items::items_refusal` meets its contract: each test is its check, in their order. Assumes nothing.
 use Rattle.base.proofs.Chain.{checks}
 use Rattle.base.proofs.Both.{held}
 use Rattle.plant.specs.Checks.{itemsRefusal, requirementsNamed}
 use Rattle.plant.proofs.Sequence.{groups-fit-places, requirements-fit-set}
 use borrow.Author.Needs.{needs}
-use Rattle.checks.proofs.items_refusal.Statement.{statement}
-use Rattle.checks.proofs.items_refusal.Tie as tie
+use Rattle.items.proofs.items_refusal.Statement.{statement}
+use Rattle.items.proofs.items_refusal.Tie as tie
 
 returns : tie.Need-returns
 unfolding itemsRefusal

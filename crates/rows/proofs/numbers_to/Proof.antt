@@ -1,11 +1,11 @@
--- `joins::numbers_to` meets its contract, by the laws of a fill. Assumes nothing.
+-- `rows::numbers_to` meets its contract, by the laws of a fill. Assumes nothing.
 use Prim.Native.Nat.{_≤_, _-_}
 use mathlib.Core.Path.{_≡_}
 use borrow.Author.Needs.{needs}
 use Rattle.base.specs.Fill.{fill}
 use Rattle.base.proofs.Filled.{filled}
-use Rattle.joins.proofs.numbers_to.Statement.{statement}
-use Rattle.joins.proofs.numbers_to.Tie as tie
+use Rattle.rows.proofs.numbers_to.Statement.{statement}
+use Rattle.rows.proofs.numbers_to.Tie as tie
 
 abbrev Inv-loop : tie.InvT-loop
 Inv-loop n numbers₀ j₀ numbers j = (j ≤ n) × (numbers ≡ fill (λ k. k) numbers₀ j)

@@ -1,4 +1,4 @@
--- `checks::requirements_named` meets its contract: a scan over the tasks. Assumes nothing.
+-- `items::requirements_named` meets its contract: a scan over the tasks. Assumes nothing.
 use Prim.Native.Nat.{ℕ, _+_, _*_, _≤_, _-_}
 use lib.ListN.{getD}
 use mathlib.Core.Path.{_≡_}
@@ -7,8 +7,8 @@ use Rattle.base.specs.Below.{allBelow}
 use Rattle.base.proofs.Scan.{scan}
 use Rattle.plant.specs.Checks.{requirementNamedIn}
 use borrow.Author.Needs.{needs}
-use Rattle.checks.proofs.requirements_named.Statement.{statement}
-use Rattle.checks.proofs.requirements_named.Tie as tie
+use Rattle.items.proofs.requirements_named.Statement.{statement}
+use Rattle.items.proofs.requirements_named.Tie as tie
 
 abbrev Inv-loop : tie.InvT-loop
 Inv-loop names rights requirement groups tasks n t₀ t =
