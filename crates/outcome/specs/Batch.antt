@@ -11,7 +11,7 @@ use Rattle.opening.specs.Reading.{openingChecks, readingOf}
 use Rattle.rules.specs.Rules.{Call}
 use Rattle.rules.specs.History.{past, dues, history}
 use Rattle.batch.specs.Requests.{callsOf}
-use Rattle.held.specs.Held.{rightsHeld, listing}
+use Rattle.listing.specs.Held.{rightsHeld, listing}
 
 -- how many requests so many bytes are, five each
 abbrev pub requestCount : List ℕ → ℕ

@@ -14,7 +14,7 @@ use Rattle.rules.specs.History.{dues, history, past}
 use Rattle.rules.specs.Rights.{Gives}
 use Rattle.rules.specs.Demand.{Demand3}
 use Rattle.batch.specs.Requests.{callAt}
-use Rattle.held.specs.Held.{HeldRight, Lists, rightsHeld}
+use Rattle.listing.specs.Held.{HeldRight, Lists, rightsHeld}
 use Rattle.outcome.specs.Batch.{requestCount, batchRefusal, batchCalls, batchOut}
 
 -- what an accepted batch keeps: opening's rules, whole requests, room

@@ -19,9 +19,9 @@ use Rattle.rules.specs.Rules.{View, holds}
 use Rattle.rules.specs.Record.{viewOf, intact}
 use Rattle.calls.proofs.Ready.{plant-valid, groups-there, tasks-known}
 use Rattle.calls.proofs.Meet.{held-same}
-use Rattle.held.proofs.Bound.{list-short}
-use Rattle.held.specs.Held.{HeldRight, Before, Lists, rightAt, rightsOn, rightsOf, rightsHeld, rightBytes, listing}
-use Rattle.held.specs.Work.{Known, rightIn, skidsIn, listIn}
+use Rattle.listing.proofs.Bound.{list-short}
+use Rattle.listing.specs.Held.{HeldRight, Before, Lists, rightAt, rightsOn, rightsOf, rightsHeld, rightBytes, listing}
+use Rattle.listing.specs.Work.{Known, rightIn, skidsIn, listIn}
 
 abbrev entry : ℕ → ℕ → ℕ → HeldRight
 entry s o r = record { skid = s; tank = o; right = r }

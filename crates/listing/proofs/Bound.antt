@@ -14,7 +14,7 @@ use Rattle.plant.specs.Right.{rightNumbers, hasRight}
 use Rattle.plant.proofs.Links.{entry-at}
 use Rattle.rules.specs.Record.{chosenAt}
 use Rattle.calls.specs.Work.{heldIn}
-use Rattle.held.specs.Work.{Known, rightIn, tankIn, skidIn, skidsIn}
+use Rattle.listing.specs.Work.{Known, rightIn, tankIn, skidIn, skidsIn}
 
 module _ (group rights running chosen : List ℕ) where
   -- tank o is the one that skid s has in o's group
