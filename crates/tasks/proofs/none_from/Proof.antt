@@ -1,8 +1,8 @@
--- `entries::none_from` meets its contract. Assumes nothing.
+-- `tasks::none_from` meets its contract. Assumes nothing.
 use Rattle.base.specs.Bits.{noneFrom}
 use borrow.Author.Needs.{needs}
-use Rattle.entries.proofs.none_from.Statement.{statement}
-use Rattle.entries.proofs.none_from.Tie as tie
+use Rattle.tasks.proofs.none_from.Statement.{statement}
+use Rattle.tasks.proofs.none_from.Tie as tie
 
 pub none-from-spec : {M : Type 1} → statement M
 unfolding noneFrom

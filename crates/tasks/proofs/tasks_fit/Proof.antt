@@ -1,4 +1,4 @@
--- `entries::tasks_fit` meets its contract: a scan over the tasks. Assumes nothing.
+-- `tasks::tasks_fit` meets its contract: a scan over the tasks. Assumes nothing.
 use Prim.Native.Nat.{ℕ, _≤_, _-_}
 use lib.ListN.{getD}
 use mathlib.Core.Path.{_≡_}
@@ -7,8 +7,8 @@ use Rattle.base.specs.Below.{allBelow}
 use Rattle.base.proofs.Scan.{scan}
 use Rattle.plant.specs.Checks.{taskIn}
 use borrow.Author.Needs.{needs}
-use Rattle.entries.proofs.tasks_fit.Statement.{statement}
-use Rattle.entries.proofs.tasks_fit.Tie as tie
+use Rattle.tasks.proofs.tasks_fit.Statement.{statement}
+use Rattle.tasks.proofs.tasks_fit.Tie as tie
 
 abbrev Inv-loop : tie.InvT-loop
 Inv-loop names rights requirements groups tasks n t₀ t = (t ≤ n) × (allBelow (λ (x : ℕ). taskIn (getD names x 0) rights requirements groups x) t ≡ true)

@@ -1,4 +1,4 @@
--- `entries::rights_fit` meets its contract: a scan over the groups. Assumes nothing.
+-- `tasks::rights_fit` meets its contract: a scan over the groups. Assumes nothing.
 use Prim.Native.Nat.{_≤_, _-_}
 use mathlib.Core.Path.{_≡_}
 use mathlib.Core.Bool.{true}
@@ -6,8 +6,8 @@ use Rattle.base.specs.Below.{allBelow}
 use Rattle.base.proofs.Scan.{scan}
 use Rattle.plant.specs.Checks.{taskRightsIn}
 use borrow.Author.Needs.{needs}
-use Rattle.entries.proofs.rights_fit.Statement.{statement}
-use Rattle.entries.proofs.rights_fit.Tie as tie
+use Rattle.tasks.proofs.rights_fit.Statement.{statement}
+use Rattle.tasks.proofs.rights_fit.Tie as tie
 
 abbrev Inv-loop : tie.InvT-loop
 Inv-loop rights groups t g₀ g = (g ≤ 8) × (allBelow (taskRightsIn rights groups t) g ≡ true)

@@ -1,4 +1,4 @@
--- `entries::skids_fit` meets its contract: a scan over the skids. Assumes nothing.
+-- `tasks::skids_fit` meets its contract: a scan over the skids. Assumes nothing.
 use Prim.Native.Nat.{_≤_, _-_}
 use mathlib.Core.Path.{_≡_}
 use mathlib.Core.Bool.{true}
@@ -6,8 +6,8 @@ use Rattle.base.specs.Below.{allBelow}
 use Rattle.base.proofs.Scan.{scan}
 use Rattle.plant.specs.Checks.{entryClear}
 use borrow.Author.Needs.{needs}
-use Rattle.entries.proofs.skids_fit.Statement.{statement}
-use Rattle.entries.proofs.skids_fit.Tie as tie
+use Rattle.tasks.proofs.skids_fit.Statement.{statement}
+use Rattle.tasks.proofs.skids_fit.Tie as tie
 
 abbrev Inv-loop : tie.InvT-loop
 Inv-loop may tasks skids n s₀ s = (s ≤ n) × (allBelow (entryClear may tasks) s ≡ true)
