@@ -6,7 +6,7 @@ use lib.ListN.{length, replicate}
 use lib.ListN as ListN
 use Rattle.lattice.specs.declared.Lattice.{Lattice}
 use Rattle.plant.specs.declared.Plant.{Plant}
-use Rattle.reader.specs.Reading.{plantOf}
+use Rattle.opening.specs.Reading.{plantOf}
 use Rattle.rules.specs.declared.Monitor.{Monitor}
 use Rattle.rules.specs.Rules.{Call, set, start, stop, gate}
 use Rattle.requests.specs.declared.Request.{Request}

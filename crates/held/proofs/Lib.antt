@@ -1,3 +1,1 @@
 pub mod Put
-pub mod Bound
-pub mod Listed

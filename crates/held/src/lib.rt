@@ -4,7 +4,7 @@ ghost use mathlib.Core.List.{[], _∷_};
 ghost use Prim.Native.Nat.{_+_, _/_, _<_, _≤_};
 ghost use lib.ListN.{length};
 ghost use Rattle.base.specs.Overlay.{overlay, Wrote};
-ghost use Rattle.held.specs.Work.{Known, rightIn, tankIn, skidIn, skidsIn, listIn};
+ghost use Rattle.listing.specs.Work.{Known, rightIn, tankIn, skidIn, skidsIn, listIn};
 use plant::Right;
 use steps::is_held;
 

@@ -3,11 +3,11 @@ use Prim.Native.Nat.{ℕ}
 use mathlib.Core.Bool.{cond}
 use mathlib.Core.List.{List}
 use lib.Dec.{eqb}
-use Rattle.reader.specs.Reading.{readingOf}
+use Rattle.opening.specs.Reading.{readingOf}
 use Rattle.rules.specs.declared.Monitor.{Monitor}
 use Rattle.rules.specs.Rules.{Call}
 use Rattle.rules.specs.Record.{fresh, reply, after}
-use Rattle.intact.specs.Zeros.{zeroMonitor}
+use Rattle.test20.specs.Zeros.{zeroMonitor}
 use Rattle.monitor.specs.declared.Answered.{Answered}
 
 -- One call on any record whatever: test 20 first, then the call's conditions; a refusal gives the record back as it was.

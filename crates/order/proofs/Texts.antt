@@ -12,7 +12,7 @@ use Rattle.base.specs.Overlay.{overlay}
 use Rattle.base.proofs.Logic.{split}
 use Rattle.base.proofs.Collected.{collect-same}
 use Rattle.layout.specs.Layout.{byteAt}
-use Rattle.held.specs.Held.{HeldRight, rightBytes}
+use Rattle.listing.specs.Held.{HeldRight, rightBytes}
 use Rattle.printing.specs.Text.{answerLine, answerLines, rightLine, rightLineAt, rightLines}
 use Rattle.printing.specs.Printed.{printed, PrintsRead}
 use Rattle.printing.proofs.Printed.{long-lines}

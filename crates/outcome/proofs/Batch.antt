@@ -11,9 +11,9 @@ use Rattle.base.specs.Overlay.{overlay}
 use Rattle.base.proofs.Overlaid.{overlay-at, overlay-past, overlay-length}
 use Rattle.plant.specs.declared.Plant.{Plant}
 use Rattle.plant.specs.Checks.{plantRefusal, Sound}
-use Rattle.reader.specs.Reading.{readingOf}
-use Rattle.reader.specs.Admitted.{Admitted}
-use Rattle.reader.proofs.Opening.{opens}
+use Rattle.opening.specs.Reading.{readingOf}
+use Rattle.opening.specs.Admitted.{Admitted}
+use Rattle.opening.proofs.Opening.{opens}
 use Rattle.rules.specs.declared.Monitor.{Monitor}
 use Rattle.rules.specs.Rules.{Call, gate, unknown, answer}
 use Rattle.rules.specs.Record.{fresh, reply, final, viewOf, intact}
@@ -24,8 +24,8 @@ use Rattle.rules.proofs.Demand.{demand3}
 use Rattle.rules.proofs.Accepted.{gate-zero}
 use Rattle.rules.proofs.Agree.{fresh-agree, list-agree}
 use Rattle.batch.proofs.Served.{runs-length, calls-length, calls-at}
-use Rattle.held.specs.Held.{HeldRight, Lists, rightsHeld, rightBytes, listing}
-use Rattle.held.proofs.Listed.{HeldIn, lists-same, rights-listed, bytes-length, bytes-at, held-at-most}
+use Rattle.listing.specs.Held.{HeldRight, Lists, rightsHeld, rightBytes, listing}
+use Rattle.listing.proofs.Listed.{HeldIn, lists-same, rights-listed, bytes-length, bytes-at, held-at-most}
 use Rattle.outcome.specs.Batch.{requestCount, refusalBy, batchRefusal, outcome, batchOut}
 use Rattle.outcome.specs.Served.{Admits, none, P, calls, held, Served, Batch}
 use Rattle.outcome.proofs.Outcome.{same-answers, same-rights}

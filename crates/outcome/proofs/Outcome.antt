@@ -19,9 +19,9 @@ use Rattle.rules.specs.History.{past, dues, history}
 use Rattle.rules.proofs.Agree.{fresh-agree, list-agree, list-replies}
 use Rattle.batch.specs.Requests.{callsOf}
 use Rattle.batch.proofs.Served.{once, still-intact, runs-length, calls-length}
-use Rattle.held.specs.Held.{HeldRight, rightsHeld, listing}
-use Rattle.held.specs.Work.{Known, listIn}
-use Rattle.held.proofs.Listed.{known, written-listing}
+use Rattle.listing.specs.Held.{HeldRight, rightsHeld, listing}
+use Rattle.listing.specs.Work.{Known, listIn}
+use Rattle.listing.proofs.Listed.{known, written-listing}
 use Rattle.outcome.specs.Batch.{outcome}
 
 module _ (P : Plant) (q : plantRefusal true true P ≡ 0) (cs : List Call) where

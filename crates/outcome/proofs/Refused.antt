@@ -12,11 +12,11 @@ use Rattle.base.specs.Chain.{first}
 use Rattle.base.specs.Overlay.{overlay}
 use Rattle.base.proofs.Logic.{split}
 use Rattle.base.proofs.Chain.{first-append, clear}
-use Rattle.reader.specs.declared.Reading.{Reading}
-use Rattle.reader.specs.Reading.{openingChecks, openingRefusal, readingOf}
+use Rattle.opening.specs.declared.Reading.{Reading}
+use Rattle.opening.specs.Reading.{openingChecks, openingRefusal, readingOf}
 use Rattle.plant.specs.Checks.{plantRefusal}
 use Rattle.plant.proofs.Sound.{sound-law}
-use Rattle.reader.proofs.Opening.{opens}
+use Rattle.opening.proofs.Opening.{opens}
 use Rattle.outcome.specs.Batch.{sizeChecks, requestChecks, refusalBy, batchRefusal, outcome, batchCalls, batchOut}
 
 module _ (plant requests : List ℕ) where

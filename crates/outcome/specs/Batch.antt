@@ -7,11 +7,11 @@ use lib.ListN.{length}
 use Rattle.base.specs.Chain.{Test, _gives_, first}
 use Rattle.base.specs.Overlay.{overlay}
 use Rattle.plant.specs.declared.Plant.{Plant}
-use Rattle.reader.specs.Reading.{openingChecks, readingOf}
+use Rattle.opening.specs.Reading.{openingChecks, readingOf}
 use Rattle.rules.specs.Rules.{Call}
 use Rattle.rules.specs.History.{past, dues, history}
 use Rattle.batch.specs.Requests.{callsOf}
-use Rattle.held.specs.Held.{rightsHeld, listing}
+use Rattle.listing.specs.Held.{rightsHeld, listing}
 
 -- how many requests so many bytes are, five each
 abbrev pub requestCount : List ℕ → ℕ

@@ -5,16 +5,16 @@ use Prim.Native.Nat.{ℕ, _+_, _*_, _≤_, _<_}
 use mathlib.Core.List.{List, []}
 use lib.ListN.{length, getD}
 use Rattle.plant.specs.declared.Plant.{Plant}
-use Rattle.reader.specs.Admitted.{Admitted, rules}
+use Rattle.opening.specs.Admitted.{Admitted, rules}
 use Rattle.base.specs.Chain.{Breaks}
-use Rattle.reader.specs.Reading.{readingOf}
+use Rattle.opening.specs.Reading.{readingOf}
 use Rattle.rules.specs.Rules.{Call, gate, unknown}
 use Rattle.rules.specs.Record.{fresh, reply, final}
 use Rattle.rules.specs.History.{dues, history, past}
 use Rattle.rules.specs.Rights.{Gives}
 use Rattle.rules.specs.Demand.{Demand3}
 use Rattle.batch.specs.Requests.{callAt}
-use Rattle.held.specs.Held.{HeldRight, Lists, rightsHeld}
+use Rattle.listing.specs.Held.{HeldRight, Lists, rightsHeld}
 use Rattle.outcome.specs.Batch.{requestCount, batchRefusal, batchCalls, batchOut}
 
 -- what an accepted batch keeps: opening's rules, whole requests, room

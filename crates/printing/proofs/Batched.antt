@@ -15,12 +15,12 @@ use Rattle.base.proofs.Overlaid.{overlay-at}
 use Rattle.base.proofs.Collected.{collect-same}
 use Rattle.layout.specs.Layout.{byteAt}
 use Rattle.plant.specs.declared.Plant.{Plant}
-use Rattle.reader.specs.Reading.{readingOf}
+use Rattle.opening.specs.Reading.{readingOf}
 use Rattle.rules.specs.Rules.{Call}
 use Rattle.rules.specs.History.{past, dues, history, note}
 use Rattle.batch.proofs.Served.{calls-length}
-use Rattle.held.specs.Held.{HeldRight, rightsHeld, rightBytes}
-use Rattle.held.proofs.Listed.{bytes-length}
+use Rattle.listing.specs.Held.{HeldRight, rightsHeld, rightBytes}
+use Rattle.listing.proofs.Listed.{bytes-length}
 use Rattle.outcome.specs.Batch.{requestCount, batchRefusal, batchCalls, outcome, batchOut}
 use Rattle.outcome.proofs.Refused.{refusal-is}
 use Rattle.printing.specs.Text.{answerLineAt, answerLines, rightLineAt, rightLines, heldLine, heldLines, outcomeLines}

@@ -6,7 +6,7 @@ use lib.Dec.{ltb}
 use lib.ListN.{length, take, drop}
 use Rattle.base.specs.Overlay.{Wrote}
 use Rattle.layout.specs.Layout.{wordAt, headerBytes, lengthAt}
-use Rattle.reader.specs.Reading.{readingOf}
+use Rattle.opening.specs.Reading.{readingOf}
 use Rattle.outcome.specs.Batch.{requestCount, batchRefusal, batchCalls, outcome}
 use Rattle.printing.specs.Text.{codes, line, refusalLine, outcomeLines}
 

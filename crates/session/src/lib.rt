@@ -7,8 +7,8 @@ use header::HEADER_BYTES;
 use header::length_said;
 use lines::print_outcome;
 use lines::put_refusal;
-use lines::put_word;
 use panel::permits_batch;
+use text::put_word;
 
 // What the program reads into: one byte more than is taken, so that longer input shows.
 pub const INPUT: usize = 65537;

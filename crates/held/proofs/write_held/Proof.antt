@@ -5,9 +5,9 @@ use mathlib.Core.List.{List, _∷_}
 use native.Mathlib.Omega.{arith}
 use lib.ListN.{length, set}
 use Rattle.base.specs.Overlay.{overlay}
-use Rattle.held.specs.Work.{skidsIn}
+use Rattle.listing.specs.Work.{skidsIn}
 use Rattle.held.proofs.Put.{overlay-front}
-use Rattle.held.proofs.Bound.{list-short}
+use Rattle.listing.proofs.Bound.{list-short}
 use borrow.Author.Needs.{needs}
 use Rattle.held.proofs.write_held.Statement.{statement}
 use Rattle.held.proofs.write_held.Tie as tie

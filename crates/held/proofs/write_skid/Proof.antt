@@ -3,7 +3,7 @@ use Prim.Native.Nat.{_≤_, _-_}
 use Rattle.base.specs.Collect.{collect}
 use Rattle.base.specs.Overlay.{Wrote}
 use Rattle.base.proofs.Collected.{written, wrote-room, wrote-same}
-use Rattle.held.specs.Work.{tankIn}
+use Rattle.listing.specs.Work.{tankIn}
 use borrow.Author.Needs.{needs}
 use Rattle.held.proofs.write_skid.Statement.{statement}
 use Rattle.held.proofs.write_skid.Tie as tie

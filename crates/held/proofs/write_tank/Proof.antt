@@ -6,7 +6,7 @@ use Rattle.base.specs.Collect.{collect}
 use Rattle.base.specs.Overlay.{Wrote}
 use Rattle.base.proofs.Collected.{written, wrote-room, wrote-more, wrote-same}
 use Rattle.plant.specs.Right.{rightNumbers}
-use Rattle.held.specs.Work.{rightIn}
+use Rattle.listing.specs.Work.{rightIn}
 use borrow.Author.Needs.{needs}
 use Rattle.held.proofs.write_tank.Statement.{statement}
 use Rattle.held.proofs.write_tank.Tie as tie

@@ -1,5 +1,5 @@
 -- `intact::is_intact` meets its contract: the plant, then the changing parts, which say what the views do. Assumes nothing.
-use Rattle.intact.proofs.Views.{refused, fits, lattices-in, intact-same}
+use Rattle.test20.proofs.Views.{refused, fits, lattices-in, intact-same}
 use borrow.Author.Needs.{needs}
 use Rattle.intact.proofs.is_intact.Statement.{statement}
 use Rattle.intact.proofs.is_intact.Tie as tie

@@ -4,8 +4,8 @@ use mathlib.Core.List.{List}
 use mathlib.Core.Path.{sym, subst}
 use Rattle.base.proofs.Both.{calls}
 use borrow.Author.Needs.{needs}
-use Rattle.intact.specs.Raw.{Free}
-use Rattle.intact.proofs.Views.{most-free}
+use Rattle.test20.specs.Raw.{Free}
+use Rattle.test20.proofs.Views.{most-free}
 use Rattle.intact.proofs.parts_ok.Statement.{statement}
 use Rattle.intact.proofs.parts_ok.Tie as tie
 

@@ -1,7 +1,7 @@
 -- `panel::permits_batch` meets its contract: a refusal with nothing written, or the outcome. Assumes nothing.
 use mathlib.Core.Path.{sym, ap, _∙_}
 use Rattle.base.specs.Overlay.{overlay}
-use Rattle.reader.specs.declared.Reading.{Reading}
+use Rattle.opening.specs.declared.Reading.{Reading}
 use Rattle.outcome.specs.Batch.{outcome, batchCalls}
 use Rattle.outcome.proofs.Refused.{unwritten, written, refusal-by, accepts, plant-passes}
 use borrow.Author.Needs.{needs}

@@ -1,6 +1,6 @@
 -- `reader::other_zeros` meets its contract: each test is the definition's, in its order. Assumes nothing.
 use Rattle.base.proofs.Both.{guards}
-use Rattle.reader.specs.Reading.{otherZeros}
+use Rattle.opening.specs.Reading.{otherZeros}
 use borrow.Author.Needs.{needs}
 use Rattle.reader.proofs.other_zeros.Statement.{statement}
 use Rattle.reader.proofs.other_zeros.Tie as tie

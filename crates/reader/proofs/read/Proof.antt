@@ -1,7 +1,7 @@
 -- `reader::read` meets its contract: each early return is the chain's. Assumes nothing.
 use mathlib.Core.Path.{refl}
-use Rattle.reader.specs.Reading.{latticeZeros}
-use Rattle.reader.proofs.Sequence.{refused-early, refused-late, accepted}
+use Rattle.opening.specs.Reading.{latticeZeros}
+use Rattle.opening.proofs.Sequence.{refused-early, refused-late, accepted}
 use borrow.Author.Needs.{needs}
 use Rattle.reader.proofs.read.Statement.{statement}
 use Rattle.reader.proofs.read.Tie as tie

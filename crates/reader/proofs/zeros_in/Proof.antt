@@ -2,7 +2,7 @@
 use mathlib.Core.Path.{_∙_}
 use native.Mathlib.Omega.{arith}
 use Rattle.layout.proofs.Parts.{header-there, part-records, records-cells}
-use Rattle.reader.specs.Reading.{zeroByte}
+use Rattle.opening.specs.Reading.{zeroByte}
 use borrow.Author.Needs.{needs}
 use Rattle.reader.proofs.zeros_in.Statement.{statement}
 use Rattle.reader.proofs.zeros_in.Tie as tie

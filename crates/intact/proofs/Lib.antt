@@ -1,3 +1,0 @@
-pub mod Noted
-pub mod Views
-pub mod Zeros

@@ -1,0 +1,11 @@
+-- `text::put_byte` meets its contract. Assumes nothing.
+use borrow.Author.Needs.{needs}
+use Rattle.base.proofs.Written.{wrote-byte}
+use Rattle.text.proofs.put_byte.Statement.{statement}
+use Rattle.text.proofs.put_byte.Tie as tie
+
+returns : tie.Need-returns
+returns c = wrote-byte (c .args .text .now) (c .args .at) (c .args .byte) (c .pre)
+
+pub put-byte-spec : {M : Type 1} → statement M
+put-byte-spec = tie.close (tie.spec (λ c. search needs) (λ c. search needs) (λ c. search needs) returns)
