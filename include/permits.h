@@ -151,15 +151,15 @@ typedef struct permits_plant {
     uint8_t tanks;
     uint8_t tasks;
     uint8_t skids;
-    uint8_t sizes[8];       /* each lattice's number of levels */
-    uint16_t sets[128];     /* set i of lattice l at l * 16 + i: bit j says that level i is at or under level j */
-    uint8_t lattice[8];     /* each requirement's lattice */
-    uint8_t requirement[8]; /* each group's requirement */
-    uint8_t group[64];      /* each tank's group */
-    uint8_t level[64];      /* each tank's level */
-    uint8_t names[16];      /* the requirements that each task names: bit d is requirement d */
-    uint8_t rights[128];    /* the rights of task t on group g at t * 8 + g: bit r is right r */
-    uint16_t may[8];        /* the tasks that each skid may run: bit t is task t */
+    uint8_t lattice_sizes[8];       /* each lattice's number of levels */
+    uint16_t lattice_sets[128];     /* set i of lattice l at l * 16 + i: bit j says that level i is at or under level j */
+    uint8_t requirement_lattice[8]; /* each requirement's lattice */
+    uint8_t group_requirement[8];   /* each group's requirement */
+    uint8_t tank_group[64];         /* each tank's group */
+    uint8_t tank_level[64];         /* each tank's level */
+    uint8_t task_requirements[16];  /* the requirements that each task names: bit d is requirement d */
+    uint8_t task_rights[128];       /* the rights of task t on group g at t * 8 + g: bit r is right r */
+    uint16_t skid_tasks[8];         /* the tasks that each skid may run: bit t is task t */
 } permits_plant;
 
 /* A monitor. A console may copy, store and compare it; the calls alone should write it. In a monitor m,
@@ -194,15 +194,15 @@ typedef struct permits_place {
 
 /* The archives were compiled for these sizes and places. */
 static_assert(sizeof(permits_plant) == 574, "size of a plant");
-static_assert(offsetof(permits_plant, sizes) == 6, "place of sizes");
-static_assert(offsetof(permits_plant, sets) == 14, "place of sets");
-static_assert(offsetof(permits_plant, lattice) == 270, "place of lattice");
-static_assert(offsetof(permits_plant, requirement) == 278, "place of requirement");
-static_assert(offsetof(permits_plant, group) == 286, "place of group");
-static_assert(offsetof(permits_plant, level) == 350, "place of level");
-static_assert(offsetof(permits_plant, names) == 414, "place of names");
-static_assert(offsetof(permits_plant, rights) == 430, "place of rights");
-static_assert(offsetof(permits_plant, may) == 558, "place of may");
+static_assert(offsetof(permits_plant, lattice_sizes) == 6, "place of lattice_sizes");
+static_assert(offsetof(permits_plant, lattice_sets) == 14, "place of lattice_sets");
+static_assert(offsetof(permits_plant, requirement_lattice) == 270, "place of requirement_lattice");
+static_assert(offsetof(permits_plant, group_requirement) == 278, "place of group_requirement");
+static_assert(offsetof(permits_plant, tank_group) == 286, "place of tank_group");
+static_assert(offsetof(permits_plant, tank_level) == 350, "place of tank_level");
+static_assert(offsetof(permits_plant, task_requirements) == 414, "place of task_requirements");
+static_assert(offsetof(permits_plant, task_rights) == 430, "place of task_rights");
+static_assert(offsetof(permits_plant, skid_tasks) == 558, "place of skid_tasks");
 static_assert(sizeof(permits_monitor) == 1670, "size of a monitor");
 static_assert(offsetof(permits_monitor, levels) == 574, "place of levels");
 static_assert(offsetof(permits_monitor, running) == 1598, "place of running");

@@ -174,7 +174,7 @@ static void broken_records(void)
     m.chosen[1] = 2;
     refused("no chosen tank where the running task has a right", &m);
     m = fresh();
-    m.plant.level[1] = 0;
+    m.plant.tank_level[1] = 0;
     refused("a plant with two tanks of one group at one level", &m);
 }
 
@@ -290,7 +290,7 @@ static void lacking(void)
     call_keeps("group 1 lacks a tank", 28, &m, (request){PERMITS_START, 0, 0, 0, 0});
 
     m = fresh();
-    m.plant.level[0] = 1;
+    m.plant.tank_level[0] = 1;
     m.levels[0] = 0;
     call_keeps("group 0 lacks a tank, group 1 has no level", 27, &m, (request){PERMITS_START, 0, 0, 0, 0});
     m.levels[1] = 3;

@@ -27,15 +27,15 @@ static inline permits_monitor fresh(void)
         .tanks = 4,
         .tasks = 2,
         .skids = 2,
-        .sizes = {3, 4},
-        .sets = {7, 6, 4, [16] = 15, 10, 12, 8},
-        .lattice = {0, 1},
-        .requirement = {0, 1},
-        .group = {0, 0, 1, 1},
-        .level = {0, 2, 1, 2},
-        .names = {3, 1},
-        .rights = {1, 5, [8] = 2, 0},
-        .may = {3, 2},
+        .lattice_sizes = {3, 4},
+        .lattice_sets = {7, 6, 4, [16] = 15, 10, 12, 8},
+        .requirement_lattice = {0, 1},
+        .group_requirement = {0, 1},
+        .tank_group = {0, 0, 1, 1},
+        .tank_level = {0, 2, 1, 2},
+        .task_requirements = {3, 1},
+        .task_rights = {1, 5, [8] = 2, 0},
+        .skid_tasks = {3, 2},
     });
 }
 
@@ -49,12 +49,12 @@ static inline permits_monitor fresh_full(void)
         .tanks = 8,
         .tasks = 1,
         .skids = 8,
-        .sizes = {1},
-        .sets = {1},
-        .group = {0, 1, 2, 3, 4, 5, 6, 7},
-        .names = {1},
-        .rights = {7, 7, 7, 7, 7, 7, 7, 7},
-        .may = {1, 1, 1, 1, 1, 1, 1, 1},
+        .lattice_sizes = {1},
+        .lattice_sets = {1},
+        .tank_group = {0, 1, 2, 3, 4, 5, 6, 7},
+        .task_requirements = {1},
+        .task_rights = {7, 7, 7, 7, 7, 7, 7, 7},
+        .skid_tasks = {1, 1, 1, 1, 1, 1, 1, 1},
     });
 }
 

@@ -21,7 +21,7 @@ use Rattle.rules.proofs.Agree.{fresh-agree, intact-true}
 use Rattle.rules.proofs.IntactKept.{tested-once}
 use Rattle.calls.specs.Lent.{Tables}
 use Rattle.calls.specs.Work.{Granted}
-use Rattle.batch.specs.Requests.{callAt, callsOf}
+use Rattle.batch.specs.RequestBytes.{callAt, callsOf}
 
 -- one call more at the end of a list
 pub ends-more : (cs : List Call) (m : Monitor) (c : Call) → ends m (cs ++ (c ∷ [])) ≡ stepped ((ends m cs) .plant) (ends m cs) c
@@ -96,7 +96,7 @@ pub record Before (P : Plant) (bytes : List ℕ) (n : ℕ) (out₀ : List ℕ) (
   pub state : recordOf P levels running chosen ≡ ends (fresh P) (callsOf bytes i)
   pub answers : out ≡ overlay out₀ 0 (runs (fresh P) (callsOf bytes i))
   pub tables : Tables P made needs
-  pub grants : Granted (P .rights) running (P .skids) granted
+  pub grants : Granted (P .«task_rights») running (P .skids) granted
 
 -- before the first request
 pub first-record : (P : Plant) (bytes : List ℕ) → recordOf P (replicate 1024 255) (replicate 8 255) (replicate 64 255) ≡ ends (fresh P) (callsOf bytes 0)

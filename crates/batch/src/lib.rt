@@ -7,7 +7,7 @@ ghost use Rattle.base.specs.Overlay.{overlay};
 ghost use Rattle.plant.specs.Checks.{plantRefusal};
 ghost use Rattle.rules.specs.Record.{fresh};
 ghost use Rattle.rules.specs.Run.{runs, ends};
-ghost use Rattle.batch.specs.Requests.{requestAt, callsOf};
+ghost use Rattle.batch.specs.RequestBytes.{requestAt, callsOf};
 use calls::Counts;
 use plant::Plant;
 use turns::turn;
@@ -57,15 +57,15 @@ pub fn serve(p: Plant, bytes: &[u8], n: usize, out: &mut [u8]) -> Parts
         let r = request_at(bytes, i);
         out[i] = turn(
             counts,
-            &p.sizes,
-            &p.sets,
-            &p.lattice,
-            &p.requirement,
-            &p.group,
-            &p.level,
-            &p.names,
-            &p.rights,
-            &p.may,
+            &p.lattice_sizes,
+            &p.lattice_sets,
+            &p.requirement_lattice,
+            &p.group_requirement,
+            &p.tank_group,
+            &p.tank_level,
+            &p.task_requirements,
+            &p.task_rights,
+            &p.skid_tasks,
             &mut levels,
             &mut running,
             &mut chosen,

@@ -63,18 +63,18 @@ none-granted rights skids l = record {
 }
 
 -- The rights are kept by a start and by a stop: where it is accepted the skid's row changes with its task, and else neither does.
-module _ (m : Monitor) {granted : List ℕ} (G : Granted (m .plant .rights) (m .running) (m .plant .skids) granted) where
+module _ (m : Monitor) {granted : List ℕ} (G : Granted (m .plant .«task_rights») (m .running) (m .plant .skids) granted) where
   -- a call that is not accepted
-  refused-granted : (c : Call) {r : ℕ} {left : Monitor} → rules.granted (m .plant) (viewOf (m .plant) m (skidOf c)) c ≡ 0 → Does m c r left → r ≢ 0 → Granted (m .plant .rights) (left .running) (m .plant .skids) granted
+  refused-granted : (c : Call) {r : ℕ} {left : Monitor} → rules.acceptedAnswer (m .plant) (viewOf (m .plant) m (skidOf c)) c ≡ 0 → Does m c r left → r ≢ 0 → Granted (m .plant .«task_rights») (left .running) (m .plant .skids) granted
   unfolding answer stepped
   refused-granted c z d n = rw (d .leaves, ne-eqb (refusal (m .plant) (viewOf (m .plant) m) c) 0 (λ e. n (d .answers ∙ rw (e, z)))) G
 
-  pub start-refused : (s t : ℕ) {r : ℕ} {left : Monitor} → Does m (start s t) r left → r ≢ 0 → Granted (m .plant .rights) (left .running) (m .plant .skids) granted
-  unfolding rules.granted
+  pub start-refused : (s t : ℕ) {r : ℕ} {left : Monitor} → Does m (start s t) r left → r ≢ 0 → Granted (m .plant .«task_rights») (left .running) (m .plant .skids) granted
+  unfolding rules.acceptedAnswer
   start-refused s t = refused-granted (start s t) refl
 
-  pub stop-refused : (s : ℕ) {r : ℕ} {left : Monitor} → Does m (stop s) r left → r ≢ 0 → Granted (m .plant .rights) (left .running) (m .plant .skids) granted
-  unfolding rules.granted
+  pub stop-refused : (s : ℕ) {r : ℕ} {left : Monitor} → Does m (stop s) r left → r ≢ 0 → Granted (m .plant .«task_rights») (left .running) (m .plant .skids) granted
+  unfolding rules.acceptedAnswer
   stop-refused s = refused-granted (stop s) refl
 
   -- the call is accepted where its answer is 0
@@ -89,14 +89,14 @@ module _ (m : Monitor) {granted : List ℕ} (G : Granted (m .plant .rights) (m .
   stop-item s a d e = omega (arith, stop-ok (m .plant) (viewOf (m .plant) m) s (zero (stop s) d e))
 
   pub start-granted : (s t : ℕ) → (s < 8) × (t < 16) → {r : ℕ} {left : Monitor} → Does m (start s t) r left → r ≡ 0
-      → Granted (m .plant .rights) (left .running) (m .plant .skids) (fillFrom granted (s * 8) (rightsIn (m .plant .rights) t) 8)
+      → Granted (m .plant .«task_rights») (left .running) (m .plant .skids) (fillFrom granted (s * 8) (rightsIn (m .plant .«task_rights») t) 8)
   unfolding stepped changed
-  start-granted s t l d e = rw (d .leaves, zero (start s t) d e) (task-put (m .plant .rights) (m .running) s (l .0) G t (l .1))
+  start-granted s t l d e = rw (d .leaves, zero (start s t) d e) (task-put (m .plant .«task_rights») (m .running) s (l .0) G t (l .1))
 
   pub stop-granted : (s : ℕ) → s < 8 → {r : ℕ} {left : Monitor} → Does m (stop s) r left → r ≡ 0
-      → Granted (m .plant .rights) (left .running) (m .plant .skids) (fillFrom granted (s * 8) (getRow (replicate 8 0)) 8)
+      → Granted (m .plant .«task_rights») (left .running) (m .plant .skids) (fillFrom granted (s * 8) (getRow (replicate 8 0)) 8)
   unfolding stepped changed
-  stop-granted s l d e = rw (d .leaves, zero (stop s) d e) (none-put (m .plant .rights) (m .running) s l G)
+  stop-granted s l d e = rw (d .leaves, zero (stop s) d e) (none-put (m .plant .«task_rights») (m .running) s l G)
 
 and-swap : (a b : Bool) → a && b ≡ b && a
 and-swap true true = refl

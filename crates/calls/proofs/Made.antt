@@ -32,7 +32,7 @@ none-made P = record {
 }
 
 -- and once it is made
-pub all-made : {P : Plant} {made needs : List ℕ} → Choices P made → Needed (P .rights) (P .groups) needs → Tables P made needs
+pub all-made : {P : Plant} {made needs : List ℕ} → Choices P made → Needed (P .«task_rights») (P .groups) needs → Tables P made needs
 all-made c n = record { table = record { size = c .size; right = λ x. c }; tasks = n }
 
 -- the set of a task, group by group
@@ -63,7 +63,7 @@ need-put rights groups needs t need l n h = record {
 }
 
 -- A start of skid s and task t on a record that passes test 20, where `need` is the set of the task's groups.
-module _ (m : Monitor) (i : intact (m .plant) m ≡ true) (s t need : ℕ) (a : s < m .plant .skids) (b : t < m .plant .tasks) (n : NeedIn (m .plant .rights) t (m .plant .groups) need) where
+module _ (m : Monitor) (i : intact (m .plant) m ≡ true) (s t need : ℕ) (a : s < m .plant .skids) (b : t < m .plant .tasks) (n : NeedIn (m .plant .«task_rights») t (m .plant .groups) need) where
   abbrev P : Plant
   P = m .plant
 
@@ -71,17 +71,17 @@ module _ (m : Monitor) (i : intact (m .plant) m ≡ true) (s t need : ℕ) (a : 
   fits = plant-valid m i .counts .groups-fit
 
   abbrev wish : ℕ → ℕ
-  wish = wishIn (P .requirement) (m .levels) s t
+  wish = wishIn (P .«group_requirement») (m .levels) s t
 
   abbrev named : ℕ → Bool
-  named = needsIn (P .rights) t
+  named = needsIn (P .«task_rights») t
 
   -- the groups of the set are there
-  pub reached : Reached (P .requirement) (m .levels) s t need
+  pub reached : Reached (P .«group_requirement») (m .levels) s t need
   reached g e =
       let l = ltb-true g (P .groups) (and-true (ltb g (P .groups)) (named g) (sym (n g) ∙ e) .0) in
       let r = plant-valid m i .req-in g l in
-      (omega (arith, l, fits), (omega (arith, r, plant-valid m i .counts .requirements-fit), all-at (P .groups) (wishKnown (P .requirement) (m .levels) s t) (wishes-known m i s t a b) g l))
+      (omega (arith, l, fits), (omega (arith, r, plant-valid m i .counts .requirements-fit), all-at (P .groups) (wishKnown (P .«group_requirement») (m .levels) s t) (wishes-known m i s t a b) g l))
 
   -- a test of the groups of the set, and one of the groups on which the task names a right
   over-groups : (p q : ℕ → Bool) → ((g : ℕ) → g < P .groups → named g && p g ≡ q g) → anyBelow (λ g. bit need g && p g) 8 ≡ anyBelow q (P .groups)
@@ -91,28 +91,28 @@ module _ (m : Monitor) (i : intact (m .plant) m ≡ true) (s t need : ℕ) (a : 
       ∙ any-same (P .groups) (λ g. named g && p g) q e
 
   abbrev found : ℕ → ℕ → ℕ
-  found = groupChoice (P .sets) (P .group) (P .level) (P .lattice) (P .requirement) (P .tanks)
+  found = groupChoice (P .«lattice_sets») (P .«tank_group») (P .«tank_level») (P .«requirement_lattice») (P .«group_requirement») (P .tanks)
 
   -- what the table has for a group whose level is set is the choice
   same-found : {made : List ℕ} → Choices P made → (g : ℕ) → g < P .groups → eqb (wish g) 255 ≡ false → madeAt made g (wish g) ≡ found g (wish g)
-  same-found h g l e = h .right g (wish g) l (known (wish g) 16 (all-at (P .groups) (wishKnown (P .requirement) (m .levels) s t) (wishes-known m i s t a b) g l) (eqb-false (wish g) 255 e))
+  same-found h g l e = h .right g (wish g) l (known (wish g) 16 (all-at (P .groups) (wishKnown (P .«group_requirement») (m .levels) s t) (wishes-known m i s t a b) g l) (eqb-false (wish g) 255 e))
 
-  pub by-choice : {made : List ℕ} → Choices P made → {number : ℕ} {row : List ℕ} → RowDone (madeAt made) (P .requirement) (m .levels) s t (bit need) 8 number row → RowDone found (P .requirement) (m .levels) s t named (P .groups) number row
+  pub by-choice : {made : List ℕ} → Choices P made → {number : ℕ} {row : List ℕ} → RowDone (madeAt made) (P .«group_requirement») (m .levels) s t (bit need) 8 number row → RowDone found (P .«group_requirement») (m .levels) s t named (P .groups) number row
   by-choice {made} h {number} d =
-      let blank = over-groups (λ g. eqb (wish g) 255) (blankIn (P .requirement) (m .levels) s t named) (λ g l. refl) in
-      split (anyBelow (blankIn (P .requirement) (m .levels) s t named) (P .groups))
+      let blank = over-groups (λ g. eqb (wish g) 255) (blankIn (P .«group_requirement») (m .levels) s t named) (λ g l. refl) in
+      split (anyBelow (blankIn (P .«group_requirement») (m .levels) s t named) (P .groups))
       (λ z. let e : number ≡ 27 = rw (blank, z) at (d .answers) in record { answers = e ∙ sym (rw z); chooses = λ y. absurd (omega (arith, y, e)) })
       (λ z.
       let same : (g : ℕ) → g < P .groups → named g ≡ true → madeAt made g (wish g) ≡ found g (wish g)
-      = λ g l x. same-found h g l (rw x at (any-no (P .groups) (blankIn (P .requirement) (m .levels) s t named) z g l)) in
+      = λ g l x. same-found h g l (rw x at (any-no (P .groups) (blankIn (P .«group_requirement») (m .levels) s t named) z g l)) in
       record {
         answers = d .answers ∙ rw (
           blank,
           z,
-          over-groups (λ g. eqb (madeAt made g (wish g)) 255) (lackingIn found (P .requirement) (m .levels) s t named)
+          over-groups (λ g. eqb (madeAt made g (wish g)) 255) (lackingIn found (P .«group_requirement») (m .levels) s t named)
               (λ g l. split (named g) (λ x. rw (x, same g l x)) (λ x. rw x)),
         );
-        chooses = λ y. d .chooses y ∙ fill-over 255 (pickIn (madeAt made) (P .requirement) (m .levels) s t (bit need)) (pickIn found (P .requirement) (m .levels) s t named) 8 (P .groups) fits
+        chooses = λ y. d .chooses y ∙ fill-over 255 (pickIn (madeAt made) (P .«group_requirement») (m .levels) s t (bit need)) (pickIn found (P .«group_requirement») (m .levels) s t named) 8 (P .groups) fits
             (λ g l. rw (n g, lt-ltb g (P .groups) l) (split (named g) (λ x. rw (x, same g l x)) (λ x. rw x)))
             (λ g k l. rw (n g, le-ltb g (P .groups) k));
       })

@@ -31,24 +31,24 @@ module _ (m : Monitor) (i : intact (m .plant) m ≡ true) where
   skid-intact : (s : ℕ) → s < m .plant .skids → IntactView (m .plant) s (viewOf (m .plant) m s)
   skid-intact = intact-means (m .plant) (viewOf (m .plant) m) .0 i .skids-intact
 
-  pub lattices-there : allBelow (entryBelow (m .plant .lattice) 8) (m .plant .requirements) ≡ true
-  lattices-there = all-yes (m .plant .requirements) (entryBelow (m .plant .lattice) 8)
+  pub lattices-there : allBelow (entryBelow (m .plant .«requirement_lattice») 8) (m .plant .requirements) ≡ true
+  lattices-there = all-yes (m .plant .requirements) (entryBelow (m .plant .«requirement_lattice») 8)
       (λ d l. lt-ltb (latticeOf (m .plant) d) 8 (omega (arith, plant-valid .lattice-in d l, plant-valid .counts .lattices-fit)))
 
-  pub links-there : allBelow (linkIn (m .plant .lattice) (m .plant .requirement)) (m .plant .groups) ≡ true
-  links-there = all-yes (m .plant .groups) (linkIn (m .plant .lattice) (m .plant .requirement))
+  pub links-there : allBelow (linkIn (m .plant .«requirement_lattice») (m .plant .«group_requirement»)) (m .plant .groups) ≡ true
+  links-there = all-yes (m .plant .groups) (linkIn (m .plant .«requirement_lattice») (m .plant .«group_requirement»))
       (λ g l. let r = plant-valid .req-in g l in
       and-both _ _ (lt-ltb (requirementOf (m .plant) g) 8 (omega (arith, plant-valid .counts .requirements-fit))) (lt-ltb (latticeOf (m .plant) (requirementOf (m .plant) g)) 8 (omega (arith, plant-valid .lattice-in (requirementOf (m .plant) g) r, plant-valid .counts .lattices-fit))))
 
-  pub groups-there : allBelow (entryBelow (m .plant .group) 8) (m .plant .tanks) ≡ true
-  groups-there = all-yes (m .plant .tanks) (entryBelow (m .plant .group) 8)
+  pub groups-there : allBelow (entryBelow (m .plant .«tank_group») 8) (m .plant .tanks) ≡ true
+  groups-there = all-yes (m .plant .tanks) (entryBelow (m .plant .«tank_group») 8)
       (λ o l. lt-ltb (groupOf (m .plant) o) 8 (omega (arith, plant-valid .group-in o l, plant-valid .counts .groups-fit)))
 
-  pub groups-counted : allBelow (entryBelow (m .plant .group) (m .plant .groups)) (m .plant .tanks) ≡ true
-  groups-counted = all-yes (m .plant .tanks) (entryBelow (m .plant .group) (m .plant .groups)) (λ o l. lt-ltb (groupOf (m .plant) o) (m .plant .groups) (plant-valid .group-in o l))
+  pub groups-counted : allBelow (entryBelow (m .plant .«tank_group») (m .plant .groups)) (m .plant .tanks) ≡ true
+  groups-counted = all-yes (m .plant .tanks) (entryBelow (m .plant .«tank_group») (m .plant .groups)) (λ o l. lt-ltb (groupOf (m .plant) o) (m .plant .groups) (plant-valid .group-in o l))
 
-  pub levels-there : allBelow (entryBelow (m .plant .level) 16) (m .plant .tanks) ≡ true
-  levels-there = all-yes (m .plant .tanks) (entryBelow (m .plant .level) 16)
+  pub levels-there : allBelow (entryBelow (m .plant .«tank_level») 16) (m .plant .tanks) ≡ true
+  levels-there = all-yes (m .plant .tanks) (entryBelow (m .plant .«tank_level») 16)
       (λ o l.
       let g = plant-valid .group-in o l in
       let r = plant-valid .req-in (groupOf (m .plant) o) g in
@@ -75,5 +75,5 @@ module _ (m : Monitor) (i : intact (m .plant) m ≡ true) where
       or-right (eqb (getD (m .levels) (levelAt s t d) 0) 255) (ltb (getD (m .levels) (levelAt s t d) 0) 16) (lt-ltb (getD (m .levels) (levelAt s t d) 0) 16 (omega (arith, k, plant-valid .levels-fit d c))))
       (skid-intact s a .levels-known t d b c)
 
-  pub wishes-known : (s t : ℕ) → s < m .plant .skids → t < m .plant .tasks → allBelow (wishKnown (m .plant .requirement) (m .levels) s t) (m .plant .groups) ≡ true
-  wishes-known s t a b = all-yes (m .plant .groups) (wishKnown (m .plant .requirement) (m .levels) s t) (λ g l. level-there s t (requirementOf (m .plant) g) a b (plant-valid .req-in g l))
+  pub wishes-known : (s t : ℕ) → s < m .plant .skids → t < m .plant .tasks → allBelow (wishKnown (m .plant .«group_requirement») (m .levels) s t) (m .plant .groups) ≡ true
+  wishes-known s t a b = all-yes (m .plant .groups) (wishKnown (m .plant .«group_requirement») (m .levels) s t) (λ g l. level-there s t (requirementOf (m .plant) g) a b (plant-valid .req-in g l))

@@ -18,7 +18,7 @@ use Rattle.plant.specs.Right.{rights, validRight}
 use Rattle.plant.specs.Plant.{groupOf}
 use Rattle.choice.specs.Choice.{unset}
 use Rattle.rules.specs.declared.Monitor.{Monitor}
-use Rattle.rules.specs.Rules.{Call, set, stop, gate, unknown, skidOf, View, holds, conditions, refusal, granted, answer}
+use Rattle.rules.specs.Rules.{Call, set, stop, gate, unknown, skidOf, View, holds, conditions, refusal, acceptedAnswer, answer}
 use Rattle.rules.specs.Record.{viewOf, levelAt, fillFrom, changed, stepped, withLevels, withTask}
 use Rattle.rules.proofs.Accepted.{GateOk, gate-ok}
 use Rattle.calls.specs.declared.Counts.{Counts}
@@ -31,7 +31,7 @@ use Rattle.calls.proofs.Grants.{same-held}
 use Rattle.calls.proofs.Ready.{plant-valid, groups-there, tasks-known}
 
 -- a call that answers 0 where it is accepted
-pub does : (m : Monitor) (c : Call) {r : ℕ} {left : Monitor} → granted (m .plant) (viewOf (m .plant) m (skidOf c)) c ≡ 0
+pub does : (m : Monitor) (c : Call) {r : ℕ} {left : Monitor} → acceptedAnswer (m .plant) (viewOf (m .plant) m (skidOf c)) c ≡ 0
     → r ≡ refusal (m .plant) (viewOf (m .plant) m) c → left ≡ cond (eqb r 0) (changed (m .plant) m c) m → Does m c r left
 unfolding answer stepped
 does m c z e l = record {
@@ -78,7 +78,7 @@ module _ {n : Counts} {sizes lattice levels : List ℕ} {m : Monitor} (R : SetRe
   pub set-does : (s t d v : ℕ) {r : ℕ} {levels′ : List ℕ}
       → r ≡ first (leb (n .skids) s gives 21 ∷ leb (n .tasks) t gives 22 ∷ leb (n .requirements) d gives 23 ∷ leb (getD sizes (getD lattice d 0) 0) v gives 24 ∷ [])
       → levels′ ≡ cond (eqb r 0) (ListN.set levels (levelAt s t d) v) levels → Does m (set s t d v) r (withLevels m levels′)
-  unfolding refusal conditions granted changed
+  unfolding refusal conditions acceptedAnswer changed
   set-does s t d v {r} e l = does m (set s t d v) refl
       (e ∙ rw (skids-are (R .passed), tasks-are (R .passed), requirements-are (R .passed), R .sizes-are, R .lattice-is))
       (rw (l, ← R .levels-are) (split (eqb r 0) (λ h. rw h) (λ h. rw h)))
@@ -87,7 +87,7 @@ module _ {n : Counts} {sizes lattice levels : List ℕ} {m : Monitor} (R : SetRe
 module _ {n : Counts} {running chosen : List ℕ} {m : Monitor} (R : StopReads n running chosen m) where
   pub stop-does : (s : ℕ) {r : ℕ} {running′ chosen′ : List ℕ} → r ≡ first (leb (n .skids) s gives 21 ∷ []) → running′ ≡ cond (eqb r 0) (ListN.set running s 255) running
       → chosen′ ≡ cond (eqb r 0) (fillFrom chosen (s * 8) (getRow (replicate 8 255)) 8) chosen → Does m (stop s) r (withTask m running′ chosen′)
-  unfolding refusal conditions granted changed
+  unfolding refusal conditions acceptedAnswer changed
   stop-does s {r} e a b = does m (stop s) refl (e ∙ rw (skids-are (R .passed)))
       (rw (a, b, ← R .running-is, ← R .chosen-is) (split (eqb r 0)
       (λ h. rw h (ap (λ (l : List ℕ). withTask m (ListN.set (m .running) s unset) l) (row-same (m .chosen) (s * 8) (getRow (replicate 8 255)) (λ g. unset) 8 (λ g l. getD-replicate 8 g 255 0 l))))
@@ -126,11 +126,11 @@ module _ (m : Monitor) (s o r : ℕ) where
   gate-shut e n = record { answers = e ∙ sym (rw (ne-eqb number 0 n)); leaves = gate-leaves }
 
   pub gate-opens : number ≡ 0 → holds (m .plant) (viewOf (m .plant) m s) o r ≡ true → Does m (gate s o r) 0 m
-  unfolding answer granted
+  unfolding answer acceptedAnswer
   gate-opens z e = record { answers = sym (rw (z, e)); leaves = gate-leaves }
 
   pub gate-says-no : number ≡ 0 → holds (m .plant) (viewOf (m .plant) m s) o r ≡ false → Does m (gate s o r) 33 m
-  unfolding answer granted
+  unfolding answer acceptedAnswer
   gate-says-no z e = record { answers = sym (rw (z, e)); leaves = gate-leaves }
 
 -- the skid and the tank are there, and the right is held by the record exactly where the rules say so
@@ -152,7 +152,7 @@ module _ {n : Counts} {group rights running chosen : List ℕ} {m : Monitor} (R 
   pub held-told : heldIn group rights running chosen s o r ≡ holds (m .plant) (viewOf (m .plant) m s) o r
   held-told = rw (← R .group-is, ← R .rights-are, ← R .running-is, ← R .chosen-is) (held-same m (R .passed .passes) s o r (k .skid) (k .tank))
 
-module _ {n : Counts} {group granted chosen : List ℕ} {m : Monitor} (R : GrantReads n group granted chosen m) (s o r : ℕ)
+module _ {n : Counts} {group acceptedAnswer chosen : List ℕ} {m : Monitor} (R : GrantReads n group acceptedAnswer chosen m) (s o r : ℕ)
     (z : refusal (m .plant) (viewOf (m .plant) m) (gate s o r) ≡ 0) where
   ok : GateOk (m .plant) (viewOf (m .plant) m) s o r
   ok = gate-ok (m .plant) (viewOf (m .plant) m) s o r z
@@ -164,13 +164,13 @@ module _ {n : Counts} {group granted chosen : List ℕ} {m : Monitor} (R : Grant
         rw (← R .group-is) (omega (arith, w .group-in o (ok .tank), w .counts .groups-fit)),
       )
 
-  pub granted-told : grantedIn group granted chosen s o r ≡ holds (m .plant) (viewOf (m .plant) m s) o r
+  pub granted-told : grantedIn group acceptedAnswer chosen s o r ≡ holds (m .plant) (viewOf (m .plant) m s) o r
   granted-told =
       rw (← R .group-is, ← R .chosen-is)
-      (same-held (m .plant .group) (m .plant .rights) (m .running) (m .chosen) (m .plant .tanks) (R .grants) (groups-there m (R .passed .passes)) s o r (ok .skid) (ok .tank)
+      (same-held (m .plant .«tank_group») (m .plant .«task_rights») (m .running) (m .chosen) (m .plant .tanks) (R .grants) (groups-there m (R .passed .passes)) s o r (ok .skid) (ok .tank)
       ∙ held-same m (R .passed .passes) s o r (ok .skid) (ok .tank))
 
 -- a request of no known kind
 pub unknown-does : (m : Monitor) → Does m unknown 32 m
-unfolding refusal conditions granted
+unfolding refusal conditions acceptedAnswer
 unknown-does m = does m unknown refl refl refl

@@ -36,6 +36,6 @@ module _ (m : Monitor) (i : intact (m .plant) m ≡ true) where
   chosen-is s g a b = rw (lt-ltb s (P .skids) a, lt-ltb g (P .groups) b)
 
   -- what the arrays say of a right held is what the view says
-  pub held-same : (s o r : ℕ) → s < P .skids → o < P .tanks → heldIn (P .group) (P .rights) (m .running) (m .chosen) s o r ≡ holds P (vs s) o r
+  pub held-same : (s o r : ℕ) → s < P .skids → o < P .tanks → heldIn (P .«tank_group») (P .«task_rights») (m .running) (m .chosen) s o r ≡ holds P (vs s) o r
   unfolding holds
   held-same s o r a b = rw (running-is s a, chosen-is s (groupOf P o) a (X .group-in o b))

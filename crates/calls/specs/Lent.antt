@@ -26,15 +26,15 @@ plantOf n sizes sets lattice requirement group level names rights may = record {
   tanks = n .tanks;
   tasks = n .tasks;
   skids = n .skids;
-  sizes = sizes;
-  sets = sets;
-  lattice = lattice;
-  requirement = requirement;
-  group = group;
-  level = level;
-  names = names;
-  rights = rights;
-  may = may;
+  «lattice_sizes» = sizes;
+  «lattice_sets» = sets;
+  «requirement_lattice» = lattice;
+  «group_requirement» = requirement;
+  «tank_group» = group;
+  «tank_level» = level;
+  «task_requirements» = names;
+  «task_rights» = rights;
+  «skid_tasks» = may;
 }
 
 -- A request: the kind and four bytes in the order of the call's arguments, unused ones ignored.
@@ -59,8 +59,8 @@ pub record Passed (n : Counts) (m : Monitor) : Type 0 where
 
 pub record SetReads (n : Counts) (sizes lattice levels : List ℕ) (m : Monitor) : Type 0 where
   pub passed : Passed n m
-  pub sizes-are : m .plant .sizes ≡ sizes
-  pub lattice-is : m .plant .lattice ≡ lattice
+  pub sizes-are : m .plant .«lattice_sizes» ≡ sizes
+  pub lattice-is : m .plant .«requirement_lattice» ≡ lattice
   pub levels-are : m .levels ≡ levels
 
 pub record StopReads (n : Counts) (running chosen : List ℕ) (m : Monitor) : Type 0 where
@@ -70,24 +70,24 @@ pub record StopReads (n : Counts) (running chosen : List ℕ) (m : Monitor) : Ty
 
 pub record GateReads (n : Counts) (group rights running chosen : List ℕ) (m : Monitor) : Type 0 where
   pub passed : Passed n m
-  pub group-is : m .plant .group ≡ group
-  pub rights-are : m .plant .rights ≡ rights
+  pub group-is : m .plant .«tank_group» ≡ group
+  pub rights-are : m .plant .«task_rights» ≡ rights
   pub running-is : m .running ≡ running
   pub chosen-is : m .chosen ≡ chosen
 
 -- the same for a gate in a list, which reads the rights granted in place of the running task and its rights
 pub record GrantReads (n : Counts) (group granted chosen : List ℕ) (m : Monitor) : Type 0 where
   pub passed : Passed n m
-  pub group-is : m .plant .group ≡ group
+  pub group-is : m .plant .«tank_group» ≡ group
   pub chosen-is : m .chosen ≡ chosen
-  pub grants : Granted (m .plant .rights) (m .running) (m .plant .skids) granted
+  pub grants : Granted (m .plant .«task_rights») (m .running) (m .plant .skids) granted
 
 -- the table of the choices of a plant, from each group under each level
 abbrev pub Choices : Plant → List ℕ → Type 0
-Choices P made = ChoicesIn (P .sets) (P .group) (P .level) (P .lattice) (P .requirement) (P .groups) (P .tanks) made
+Choices P made = ChoicesIn (P .«lattice_sets») (P .«tank_group») (P .«tank_level») (P .«requirement_lattice») (P .«group_requirement») (P .groups) (P .tanks) made
 
 -- What a list remembers of its plant from one request to the next: the table of choices, made at the first start that passes 26, and the groups
 -- that each task needs.
 pub record Tables (P : Plant) (made needs : List ℕ) : Type 0 where
-  pub table : Tabled (P .sets) (P .group) (P .level) (P .lattice) (P .requirement) (P .groups) (P .tanks) made
-  pub tasks : Needed (P .rights) (P .groups) needs
+  pub table : Tabled (P .«lattice_sets») (P .«tank_group») (P .«tank_level») (P .«requirement_lattice») (P .«group_requirement») (P .groups) (P .tanks) made
+  pub tasks : Needed (P .«task_rights») (P .groups) needs

@@ -81,15 +81,15 @@ threeTanks = record {
   tanks = 3;
   tasks = 1;
   skids = 1;
-  sizes = 3 ∷ [];
-  sets = 7 ∷ 6 ∷ 4 ∷ [];
-  lattice = 0 ∷ [];
-  requirement = 0 ∷ [];
-  group = 0 ∷ 0 ∷ 0 ∷ [];
-  level = 0 ∷ 1 ∷ 2 ∷ [];
-  names = 1 ∷ [];
-  rights = 1 ∷ [];
-  may = 1 ∷ [];
+  «lattice_sizes» = 3 ∷ [];
+  «lattice_sets» = 7 ∷ 6 ∷ 4 ∷ [];
+  «requirement_lattice» = 0 ∷ [];
+  «group_requirement» = 0 ∷ [];
+  «tank_group» = 0 ∷ 0 ∷ 0 ∷ [];
+  «tank_level» = 0 ∷ 1 ∷ 2 ∷ [];
+  «task_requirements» = 1 ∷ [];
+  «task_rights» = 1 ∷ [];
+  «skid_tasks» = 1 ∷ [];
 }
 
 -- the paper's plant with one byte or two changed
@@ -211,15 +211,15 @@ beyond s r = record {
   tanks = 4;
   tasks = 2;
   skids = 2;
-  sizes = ListN.set (plantOf session .sizes) 2 99;
-  sets = ListN.set (ListN.set (plantOf session .sets) 32 9) 3 s;
-  lattice = ListN.set (plantOf session .lattice) 2 9;
-  requirement = ListN.set (plantOf session .requirement) 2 9;
-  group = ListN.set (plantOf session .group) 4 9;
-  level = ListN.set (plantOf session .level) 4 99;
-  names = ListN.set (plantOf session .names) 2 255;
-  rights = ListN.set (ListN.set (ListN.set (plantOf session .rights) 16 255) 24 1) 2 r;
-  may = ListN.set (plantOf session .may) 2 65535;
+  «lattice_sizes» = ListN.set (plantOf session .«lattice_sizes») 2 99;
+  «lattice_sets» = ListN.set (ListN.set (plantOf session .«lattice_sets») 32 9) 3 s;
+  «requirement_lattice» = ListN.set (plantOf session .«requirement_lattice») 2 9;
+  «group_requirement» = ListN.set (plantOf session .«group_requirement») 2 9;
+  «tank_group» = ListN.set (plantOf session .«tank_group») 4 9;
+  «tank_level» = ListN.set (plantOf session .«tank_level») 4 99;
+  «task_requirements» = ListN.set (plantOf session .«task_requirements») 2 255;
+  «task_rights» = ListN.set (ListN.set (ListN.set (plantOf session .«task_rights») 16 255) 24 1) 2 r;
+  «skid_tasks» = ListN.set (plantOf session .«skid_tasks») 2 65535;
 }
 
 -- the plant of a file with an entry of each kind right past its count, all of which are free
@@ -231,15 +231,15 @@ freePast file = record {
   tanks = plantOf file .tanks;
   tasks = plantOf file .tasks;
   skids = plantOf file .skids;
-  sizes = ListN.set (plantOf file .sizes) (plantOf file .lattices) 99;
-  sets = plantOf file .sets;
-  lattice = ListN.set (plantOf file .lattice) (plantOf file .requirements) 9;
-  requirement = ListN.set (plantOf file .requirement) (plantOf file .groups) 9;
-  group = ListN.set (plantOf file .group) (plantOf file .tanks) 9;
-  level = ListN.set (plantOf file .level) (plantOf file .tanks) 99;
-  names = ListN.set (plantOf file .names) (plantOf file .tasks) 255;
-  rights = ListN.set (plantOf file .rights) (plantOf file .tasks * 8) 255;
-  may = ListN.set (plantOf file .may) (plantOf file .skids) 65535;
+  «lattice_sizes» = ListN.set (plantOf file .«lattice_sizes») (plantOf file .lattices) 99;
+  «lattice_sets» = plantOf file .«lattice_sets»;
+  «requirement_lattice» = ListN.set (plantOf file .«requirement_lattice») (plantOf file .requirements) 9;
+  «group_requirement» = ListN.set (plantOf file .«group_requirement») (plantOf file .groups) 9;
+  «tank_group» = ListN.set (plantOf file .«tank_group») (plantOf file .tanks) 9;
+  «tank_level» = ListN.set (plantOf file .«tank_level») (plantOf file .tanks) 99;
+  «task_requirements» = ListN.set (plantOf file .«task_requirements») (plantOf file .tasks) 255;
+  «task_rights» = ListN.set (plantOf file .«task_rights») (plantOf file .tasks * 8) 255;
+  «skid_tasks» = ListN.set (plantOf file .«skid_tasks») (plantOf file .skids) 65535;
 }
 
 -- the session's plant with other counts of requirements, groups, tasks and skids
@@ -251,15 +251,15 @@ counted requirements groups tasks skids = record {
   tanks = 4;
   tasks = tasks;
   skids = skids;
-  sizes = plantOf session .sizes;
-  sets = plantOf session .sets;
-  lattice = plantOf session .lattice;
-  requirement = plantOf session .requirement;
-  group = plantOf session .group;
-  level = plantOf session .level;
-  names = plantOf session .names;
-  rights = plantOf session .rights;
-  may = plantOf session .may;
+  «lattice_sizes» = plantOf session .«lattice_sizes»;
+  «lattice_sets» = plantOf session .«lattice_sets»;
+  «requirement_lattice» = plantOf session .«requirement_lattice»;
+  «group_requirement» = plantOf session .«group_requirement»;
+  «tank_group» = plantOf session .«tank_group»;
+  «tank_level» = plantOf session .«tank_level»;
+  «task_requirements» = plantOf session .«task_requirements»;
+  «task_rights» = plantOf session .«task_rights»;
+  «skid_tasks» = plantOf session .«skid_tasks»;
 }
 
 -- set 0 0 0 1, a request of no known kind, and stop 1

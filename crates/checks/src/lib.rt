@@ -103,7 +103,7 @@ fn lattices_refusal(p: Plant) -> u8
     ensures { λ r. ⌜ r ≡ latticesRefusal p ⌝ }
 {
     let n = p.lattices as usize;
-    let numbers = refusals(&p.sizes, &p.sets, n);
+    let numbers = refusals(&p.lattice_sizes, &p.lattice_sets, n);
     first_number(&numbers, n)
 }
 

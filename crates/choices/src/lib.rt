@@ -6,7 +6,7 @@ ghost use lib.ListN.{length, getD};
 ghost use Rattle.base.specs.Below.{allBelow, anyBelow};
 ghost use Rattle.base.specs.Bits.{bit};
 ghost use Rattle.plant.specs.Checks.{entryBelow};
-ghost use Rattle.choice.specs.Search.{underIn};
+ghost use Rattle.choice.specs.Search.{underInLattice};
 ghost use Rattle.choice.specs.Table.{linkIn, ChoicesIn, Tabled, standsIn, reachesIn, nearerIn, Put};
 use sets::byte_where;
 use sets::with_one;
@@ -55,7 +55,7 @@ fn above_in(sets: &[u16; 128], l: usize, these: u16) -> u16
 // other level of the group that is above x.
 fn nearest_for(sets: &[u16; 128], l: usize, places: u16, x: usize) -> u16
     requires { ⌜ (l < 8) × (x < 16) ⌝ }
-    ensures { λ r. ⌜ ((v : ℕ) → bit r v ≡ underIn (now (sets .entry)) l x v && not (anyBelow (nearerIn (now (sets .entry)) l places x v) 16)) ⌝ }
+    ensures { λ r. ⌜ ((v : ℕ) → bit r v ≡ underInLattice (now (sets .entry)) l x v && not (anyBelow (nearerIn (now (sets .entry)) l places x v) 16)) ⌝ }
 {
     let own = sets[l * 16 + x];
     let nearer = without_one(places & own, x);

@@ -5,7 +5,7 @@ ghost use Prim.Native.Nat.{_<_, _≤_};
 ghost use lib.ListN.{getD, replicate};
 ghost use Rattle.base.specs.Below.{allBelow};
 ghost use Rattle.base.specs.Fill.{fill};
-ghost use Rattle.plant.specs.Checks.{Fits, entryBelow, tankIn, tankFits, numbersOk, levelsFrom};
+ghost use Rattle.plant.specs.Checks.{Fits, entryBelow, tankFitsIn, tankFits, numbersOk, levelsOfGroup};
 use plant::Plant;
 use sets::wide;
 use tasks::skids_fit;
@@ -27,7 +27,7 @@ fn all_below(xs: &[u8; 8], n: usize, bound: u8) -> bool
 // How many levels the requirement of a group has, and the list of these.
 fn levels_at<'a>(sizes: &'a [u8; 8], lattice: &'a [u8; 8], requirement: &'a [u8; 8], g: usize) -> u8
     requires { ⌜ (g < 8) × ((getD (now requirement) g 0 < 8) × (getD (now lattice) (getD (now requirement) g 0) 0 < 8)) ⌝ }
-    ensures { λ r. ⌜ r ≡ levelsFrom (now (sizes .entry)) (now (lattice .entry)) (now (requirement .entry)) g ⌝ }
+    ensures { λ r. ⌜ r ≡ levelsOfGroup (now (sizes .entry)) (now (lattice .entry)) (now (requirement .entry)) g ⌝ }
 {
     let d = wide(requirement[g]);
     let l = wide(lattice[d]);
@@ -45,7 +45,7 @@ fn levels_by_group<'a>(
     requires { ⌜ (lattices ≤ 8) × ((requirements ≤ 8) × (groups ≤ 8)) ⌝ }
     requires { ⌜ allBelow (entryBelow (now lattice) lattices) requirements ≡ true ⌝ }
     requires { ⌜ allBelow (entryBelow (now requirement) requirements) groups ≡ true ⌝ }
-    ensures { λ r. ⌜ r ≡ fill (levelsFrom (now (sizes .entry)) (now (lattice .entry)) (now (requirement .entry))) (replicate 8 0) groups ⌝ }
+    ensures { λ r. ⌜ r ≡ fill (levelsOfGroup (now (sizes .entry)) (now (lattice .entry)) (now (requirement .entry))) (replicate 8 0) groups ⌝ }
 {
     let mut levels = [0u8; 8];
     let n = groups as usize;
@@ -57,7 +57,7 @@ fn levels_by_group<'a>(
 
 fn tank_fits(group: u8, level: u8, groups: u8, levels: &[u8; 8]) -> bool
     requires { ⌜ groups ≤ 8 ⌝ }
-    ensures { λ r. ⌜ r ≡ tankIn (now (levels .entry)) groups group level ⌝ }
+    ensures { λ r. ⌜ r ≡ tankFitsIn (now (levels .entry)) groups group level ⌝ }
 {
     if groups <= group {
         return false;
@@ -73,7 +73,7 @@ fn tanks_within<'a>(
     levels: &[u8; 8],
 ) -> bool
     requires { ⌜ (groups ≤ 8) × (tanks ≤ 64) ⌝ }
-    ensures { λ r. ⌜ r ≡ allBelow (λ o. tankIn (now (levels .entry)) groups (getD (now (group .entry)) o 0) (getD (now (level .entry)) o 0)) tanks ⌝ }
+    ensures { λ r. ⌜ r ≡ allBelow (λ o. tankFitsIn (now (levels .entry)) groups (getD (now (group .entry)) o 0) (getD (now (level .entry)) o 0)) tanks ⌝ }
 {
     let n = tanks as usize;
     for o in 0..n {
@@ -86,19 +86,19 @@ fn tanks_within<'a>(
 
 fn tanks_fit(p: Plant) -> bool
     requires { ⌜ Fits p ⌝ }
-    requires { ⌜ allBelow (entryBelow (p .lattice) (p .lattices)) (p .requirements) ≡ true ⌝ }
-    requires { ⌜ allBelow (entryBelow (p .requirement) (p .requirements)) (p .groups) ≡ true ⌝ }
+    requires { ⌜ allBelow (entryBelow (p .«requirement_lattice») (p .lattices)) (p .requirements) ≡ true ⌝ }
+    requires { ⌜ allBelow (entryBelow (p .«group_requirement») (p .requirements)) (p .groups) ≡ true ⌝ }
     ensures { λ r. ⌜ r ≡ allBelow (tankFits p) (p .tanks) ⌝ }
 {
     let levels = levels_by_group(
-        &p.sizes,
-        &p.lattice,
-        &p.requirement,
+        &p.lattice_sizes,
+        &p.requirement_lattice,
+        &p.group_requirement,
         p.lattices,
         p.requirements,
         p.groups,
     );
-    tanks_within(&p.group, &p.level, p.groups, p.tanks, &levels)
+    tanks_within(&p.tank_group, &p.tank_level, p.groups, p.tanks, &levels)
 }
 
 pub fn numbers_ok(p: Plant) -> bool
@@ -106,18 +106,24 @@ pub fn numbers_ok(p: Plant) -> bool
     ensures { λ r. ⌜ r ≡ numbersOk p ⌝ }
 {
     let requirements = p.requirements as usize;
-    if !all_below(&p.lattice, requirements, p.lattices) {
+    if !all_below(&p.requirement_lattice, requirements, p.lattices) {
         return false;
     }
     let groups = p.groups as usize;
-    if !all_below(&p.requirement, groups, p.requirements) {
+    if !all_below(&p.group_requirement, groups, p.requirements) {
         return false;
     }
     if !tanks_fit(p) {
         return false;
     }
-    if !tasks_fit(&p.names, &p.rights, p.requirements, p.groups, p.tasks) {
+    if !tasks_fit(
+        &p.task_requirements,
+        &p.task_rights,
+        p.requirements,
+        p.groups,
+        p.tasks,
+    ) {
         return false;
     }
-    skids_fit(&p.may, p.tasks, p.skids)
+    skids_fit(&p.skid_tasks, p.tasks, p.skids)
 }

@@ -50,7 +50,7 @@ fn limit_of(kind: usize) -> usize
     LIMITS[kind]
 }
 
-// A byte as a number that can be multiplied: where two of them are joined, the check needs that it is under 256.
+// A byte as a number that can be multiplied: where a number is made of two of them, the check needs that it is under 256.
 fn wide(x: u8) -> usize
     ensures { λ r. ⌜ (r ≡ x) × (r < 256) ⌝ }
 {

@@ -4,7 +4,7 @@ ghost use mathlib.Core.List.{[], _∷_};
 ghost use Prim.Native.Nat.{_+_, _/_, _<_, _≤_};
 ghost use lib.ListN.{length};
 ghost use Rattle.base.specs.Overlay.{overlay, Wrote};
-ghost use Rattle.listing.specs.Work.{Known, rightIn, tankIn, skidIn, skidsIn, listIn};
+ghost use Rattle.listing.specs.Work.{Known, rightBytesIn, tankBytesIn, skidBytesIn, skidsBytesIn, listBytesIn};
 use plant::Right;
 use steps::is_held;
 
@@ -36,8 +36,8 @@ fn write_right<'a, 'b>(
 ) -> usize
     requires { ⌜ Known (now group) (now running) skids tanks ⌝ }
     requires { ⌜ (s < skids) × (o < tanks) ⌝ }
-    requires { ⌜ at + length (rightIn (now group) (now rights) (now running) (now chosen) s o r) ≤ length (now out) ⌝ }
-    ensures { λ x. ⌜ Wrote (rightIn (now (group .entry)) (now (rights .entry)) (now (running .entry)) (now (chosen .entry)) s o r) (now (out .entry)) at (now (out .exit)) x ⌝ }
+    requires { ⌜ at + length (rightBytesIn (now group) (now rights) (now running) (now chosen) s o r) ≤ length (now out) ⌝ }
+    ensures { λ x. ⌜ Wrote (rightBytesIn (now (group .entry)) (now (rights .entry)) (now (running .entry)) (now (chosen .entry)) s o r) (now (out .entry)) at (now (out .exit)) x ⌝ }
 {
     if is_held(group, rights, running, chosen, s as usize, o, r) {
         return put_right(out, at, s, o, r);
@@ -60,10 +60,10 @@ fn write_tank<'a, 'b>(
 ) -> usize
     requires { ⌜ Known (now group) (now running) skids tanks ⌝ }
     requires { ⌜ (s < skids) × (o < tanks) ⌝ }
-    requires { ⌜ at + length (tankIn (now group) (now rights) (now running) (now chosen) s o) ≤ length (now out) ⌝ }
-    ensures { λ x. ⌜ Wrote (tankIn (now (group .entry)) (now (rights .entry)) (now (running .entry)) (now (chosen .entry)) s o) (now (out .entry)) at (now (out .exit)) x ⌝ }
+    requires { ⌜ at + length (tankBytesIn (now group) (now rights) (now running) (now chosen) s o) ≤ length (now out) ⌝ }
+    ensures { λ x. ⌜ Wrote (tankBytesIn (now (group .entry)) (now (rights .entry)) (now (running .entry)) (now (chosen .entry)) s o) (now (out .entry)) at (now (out .exit)) x ⌝ }
 {
-    let numbers = Right::numbers();
+    let numbers = Right::all();
     let mut end = at;
     for i in 0..numbers.len() {
         end = write_right(
@@ -96,8 +96,8 @@ fn write_skid<'a, 'b>(
 ) -> usize
     requires { ⌜ Known (now group) (now running) skids tanks ⌝ }
     requires { ⌜ s < skids ⌝ }
-    requires { ⌜ at + length (skidIn (now group) (now rights) (now running) (now chosen) tanks s) ≤ length (now out) ⌝ }
-    ensures { λ x. ⌜ Wrote (skidIn (now (group .entry)) (now (rights .entry)) (now (running .entry)) (now (chosen .entry)) tanks s) (now (out .entry)) at (now (out .exit)) x ⌝ }
+    requires { ⌜ at + length (skidBytesIn (now group) (now rights) (now running) (now chosen) tanks s) ≤ length (now out) ⌝ }
+    ensures { λ x. ⌜ Wrote (skidBytesIn (now (group .entry)) (now (rights .entry)) (now (running .entry)) (now (chosen .entry)) tanks s) (now (out .entry)) at (now (out .exit)) x ⌝ }
 {
     let mut end = at;
     let mut o: u8 = 0;
@@ -119,8 +119,8 @@ fn write_skids<'a, 'b>(
     at: usize,
 ) -> usize
     requires { ⌜ Known (now group) (now running) skids tanks ⌝ }
-    requires { ⌜ at + length (skidsIn (now group) (now rights) (now running) (now chosen) skids tanks) ≤ length (now out) ⌝ }
-    ensures { λ x. ⌜ Wrote (skidsIn (now (group .entry)) (now (rights .entry)) (now (running .entry)) (now (chosen .entry)) skids tanks) (now (out .entry)) at (now (out .exit)) x ⌝ }
+    requires { ⌜ at + length (skidsBytesIn (now group) (now rights) (now running) (now chosen) skids tanks) ≤ length (now out) ⌝ }
+    ensures { λ x. ⌜ Wrote (skidsBytesIn (now (group .entry)) (now (rights .entry)) (now (running .entry)) (now (chosen .entry)) skids tanks) (now (out .entry)) at (now (out .exit)) x ⌝ }
 {
     let mut end = at;
     let mut s: u8 = 0;
@@ -151,7 +151,7 @@ pub fn write_held<'a, 'b>(
 )
     requires { ⌜ Known (now group) (now running) skids tanks ⌝ }
     requires { ⌜ 577 ≤ length (now out) ⌝ }
-    ensures { λ x. ⌜ now (out .exit) ≡ overlay (now (out .entry)) 0 (listIn (now (group .entry)) (now (rights .entry)) (now (running .entry)) (now (chosen .entry)) skids tanks) ⌝ }
+    ensures { λ x. ⌜ now (out .exit) ≡ overlay (now (out .entry)) 0 (listBytesIn (now (group .entry)) (now (rights .entry)) (now (running .entry)) (now (chosen .entry)) skids tanks) ⌝ }
 {
     let end = write_skids(group, rights, running, chosen, skids, tanks, out, 1);
     out[0] = rights_in(end - 1);

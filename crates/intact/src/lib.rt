@@ -20,13 +20,13 @@ fn parts_ok<'a>(
     chosen: &'a [u8; 64],
 ) -> bool
     requires { ⌜ Fits p ⌝ }
-    requires { ⌜ allBelow (entryBelow (p .lattice) 8) (p .requirements) ≡ true ⌝ }
+    requires { ⌜ allBelow (entryBelow (p .«requirement_lattice») 8) (p .requirements) ≡ true ⌝ }
     ensures { λ r. ⌜ r ≡ partsIn p (now (levels .entry)) (now (running .entry)) (now (chosen .entry)) ⌝ }
 {
     let requirements = p.requirements as usize;
     let tasks = p.tasks as usize;
     let skids = p.skids as usize;
-    let most = levels_by_requirement(&p.sizes, &p.lattice, requirements);
+    let most = levels_by_requirement(&p.lattice_sizes, &p.requirement_lattice, requirements);
     levels_ok(levels, &most, requirements, tasks, skids) && runs_ok(p, running, chosen)
 }
 

@@ -20,13 +20,13 @@ fn place(group: u8, level: u8) -> usize
 // 11: no two tanks of one group at one level: each tank in turn finds its place free, and takes it.
 fn levels_distinct(p: Plant) -> bool
     requires { ⌜ Fits p ⌝ }
-    requires { ⌜ allBelow (entryBelow (p .group) 8) (p .tanks) ≡ true ⌝ }
+    requires { ⌜ allBelow (entryBelow (p .«tank_group») 8) (p .tanks) ≡ true ⌝ }
     ensures { λ r. ⌜ r ≡ levelsDistinct p ⌝ }
 {
     let mut taken = [0u8; 2048];
     let n = p.tanks as usize;
     for a in 0..n {
-        let at = place(p.group[a], p.level[a]);
+        let at = place(p.tank_group[a], p.tank_level[a]);
         if taken[at] == 1 {
             return false;
         }
@@ -96,7 +96,13 @@ pub fn items_refusal(p: Plant) -> u8
     if !levels_distinct(p) {
         return 11;
     }
-    if !requirements_named(&p.names, &p.rights, &p.requirement, p.groups, p.tasks) {
+    if !requirements_named(
+        &p.task_requirements,
+        &p.task_rights,
+        &p.group_requirement,
+        p.groups,
+        p.tasks,
+    ) {
         return 12;
     }
     0

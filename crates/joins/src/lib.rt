@@ -3,7 +3,7 @@ ghost use mathlib.Core.Path.{_≡_};
 ghost use lib.ListN.{getD};
 ghost use Prim.Native.Nat.{ℕ, _^_, _<_, _≤_};
 ghost use Rattle.lattice.specs.Levels.{complete};
-ghost use Rattle.lattice.specs.Sets.{withSets, underIn, Sound, Turned, added, turnedSets};
+ghost use Rattle.lattice.specs.Sets.{withSets, underIn, OrderedSets, Turned, added, turnedSets};
 ghost use Rattle.lattice.specs.Table.{joinTable, rowFull, tableFull};
 use rows::join_row;
 use rows::numbers_to;
@@ -35,7 +35,7 @@ fn turned(s: &[u16; 16]) -> [u16; 16]
 
 // The table of joins, by the sets s and those t of the turned order. Of the two in the other order it is the table of meets.
 fn joins<'a>(s: &'a [u16; 16], t: &'a [u16; 16], n: usize) -> [[u8; 16]; 16]
-    requires { ⌜ Sound n (now s) ⌝ }
+    requires { ⌜ OrderedSets n (now s) ⌝ }
     requires { ⌜ Turned n (now s) (now t) ⌝ }
     ensures { λ r. ⌜ r ≡ joinTable n (underIn (now (s .entry))) ⌝ }
 {
@@ -82,7 +82,7 @@ fn full(t: [[u8; 16]; 16], n: usize) -> bool
 
 // 9: each pair of levels has a join and a meet.
 pub fn is_complete(s: &[u16; 16], n: usize) -> bool
-    requires { ⌜ Sound n (now s) ⌝ }
+    requires { ⌜ OrderedSets n (now s) ⌝ }
     ensures { λ r. ⌜ r ≡ complete (withSets n (now (s .entry))) ⌝ }
 {
     let t = turned(s);

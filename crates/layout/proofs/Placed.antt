@@ -10,7 +10,7 @@ use borrow.Author.Tests.{eqb-true, ltb-true, ne-eqb, lt-ltb, le-ltb}
 use Rattle.base.proofs.Logic.{split, and-true}
 use Rattle.layout.specs.declared.Place.{Place}
 use Rattle.layout.specs.Layout.{sections, offset, size}
-use Rattle.layout.specs.Header.{placingRefusal, hasSection, sectionOf, noPlace, sectionPlace}
+use Rattle.layout.specs.Header.{headerRefusal, hasSection, sectionOf, noPlace, sectionPlace}
 use Rattle.layout.proofs.Header.{sections-inside}
 
 -- the part of the file that a place says
@@ -27,7 +27,7 @@ module _ (file : List ℕ) (kind : ℕ) where
   within =
       split (hasSection file kind)
       (λ h.
-      let q = and-true (eqb (placingRefusal file) 0) (ltb kind sections) h in
+      let q = and-true (eqb (headerRefusal file) 0) (ltb kind sections) h in
       rw h (sections-inside file (eqb-true _ _ (q .0)) kind (ltb-true _ _ (q .1)) .1))
       (λ h. rw h zero-le)
 
@@ -39,7 +39,7 @@ module _ (file : List ℕ) (kind : ℕ) where
   place-part e = ap (partAt file) e ∙ section-placed
 
   -- the three ways out: k is the number of the first failed check, and r what is returned
-  module _ {k : ℕ} (e : k ≡ placingRefusal file) {r : Place} where
+  module _ {k : ℕ} (e : k ≡ headerRefusal file) {r : Place} where
     pub place-refused : k ≢ 0 → r ≡ noPlace → r ≡ sectionPlace file kind
     unfolding sectionPlace
     place-refused n q = rw (← e, ne-eqb k 0 n) q

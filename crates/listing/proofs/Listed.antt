@@ -12,7 +12,7 @@ use Rattle.base.proofs.Logic.{split}
 use Rattle.base.proofs.Collected.{collect-same}
 use Rattle.base.proofs.Rising.{in-part, part-in, rising-collect, rising-unique}
 use Rattle.plant.specs.declared.Plant.{Plant}
-use Rattle.plant.specs.Right.{rightNumbers}
+use Rattle.plant.specs.Right.{allRights}
 use Rattle.plant.proofs.Rights.{number-at, number-rises}
 use Rattle.rules.specs.declared.Monitor.{Monitor}
 use Rattle.rules.specs.Rules.{View, holds}
@@ -21,7 +21,7 @@ use Rattle.calls.proofs.Ready.{plant-valid, groups-there, tasks-known}
 use Rattle.calls.proofs.Views.{held-same}
 use Rattle.listing.proofs.Bound.{list-short}
 use Rattle.listing.specs.Held.{HeldRight, Before, Lists, rightAt, rightsOn, rightsOf, rightsHeld, rightBytes, listing}
-use Rattle.listing.specs.Work.{Known, rightIn, skidsIn, listIn}
+use Rattle.listing.specs.Work.{Known, rightBytesIn, skidsBytesIn, listBytesIn}
 
 abbrev entry : ℕ → ℕ → ℕ → HeldRight
 entry s o r = record { skid = s; tank = o; right = r }
@@ -69,13 +69,13 @@ module _ (P : Plant) (vs : ℕ → View) where
 
   -- the rights on a tank, in their order
   abbrev numbered : ℕ → ℕ → ℕ → List HeldRight
-  numbered s o i = rightAt P vs s o (getD rightNumbers i 0)
+  numbered s o i = rightAt P vs s o (getD allRights i 0)
 
   -- a member of the rights on a tank, of a skid's rights and of all
   in-on : (s o : ℕ) (x : HeldRight) → In x (rightsOn P vs s o) → (r : ℕ) × ((r < 3) × ((x ≡ entry s o r) × (holds P (vs s) o r ≡ true)))
   in-on s o x i =
       let p = in-part (numbered s o) x 3 i in
-      let r = getD rightNumbers (p .0) 0 in
+      let r = getD allRights (p .0) 0 in
       (r, (omega (arith, number-at (p .0) (p .1 .0), p .1 .0), at-one s o r x (p .1 .1)))
 
   on-in : (s o r : ℕ) → r < 3 → holds P (vs s) o r ≡ true → In (entry s o r) (rightsOn P vs s o)
@@ -85,10 +85,10 @@ module _ (P : Plant) (vs : ℕ → View) where
   in-of s x i = in-part (rightsOn P vs s) x (P .tanks) i
 
   on-rising : (s o : ℕ) → Rising Before (rightsOn P vs s o)
-  on-rising s o = rising-collect Before (numbered s o) 3 (λ i l. one-rising s o (getD rightNumbers i 0))
+  on-rising s o = rising-collect Before (numbered s o) 3 (λ i l. one-rising s o (getD allRights i 0))
       (λ i j a b x y u v.
-      let e = at-one s o (getD rightNumbers i 0) x u .0 in
-      let f = at-one s o (getD rightNumbers j 0) y v .0 in
+      let e = at-one s o (getD allRights i 0) x u .0 in
+      let f = at-one s o (getD allRights j 0) y v .0 in
       inr (
         ap (λ (h : HeldRight). h .skid) e ∙ sym (ap (λ (h : HeldRight). h .skid) f),
         inr (
@@ -165,22 +165,22 @@ module _ (m : Monitor) (i : intact (m .plant) m ≡ true) where
   abbrev vs : ℕ → View
   vs = viewOf P m
 
-  pub known : Known (P .group) (m .running) (P .skids) (P .tanks)
+  pub known : Known (P .«tank_group») (m .running) (P .skids) (P .tanks)
   known = record { skids-fit = plant-valid m i .counts .skids-fit; tanks-fit = plant-valid m i .counts .tanks-fit; groups-there = groups-there m i; tasks-known = tasks-known m i }
 
-  one-same : (s o r : ℕ) → s < P .skids → o < P .tanks → rightIn (P .group) (P .rights) (m .running) (m .chosen) s o r ≡ rightBytes (rightAt P vs s o r)
+  one-same : (s o r : ℕ) → s < P .skids → o < P .tanks → rightBytesIn (P .«tank_group») (P .«task_rights») (m .running) (m .chosen) s o r ≡ rightBytes (rightAt P vs s o r)
   unfolding rightBytes
   one-same s o r a b = ap (λ (x : Bool). cond x (s ∷ o ∷ r ∷ []) []) (held-same m i s o r a b) ∙ split (holds P (vs s) o r) (λ h. rw h) (λ h. rw h)
 
-  rights-same : skidsIn (P .group) (P .rights) (m .running) (m .chosen) (P .skids) (P .tanks) ≡ rightBytes (rightsHeld P vs)
+  rights-same : skidsBytesIn (P .«tank_group») (P .«task_rights») (m .running) (m .chosen) (P .skids) (P .tanks) ≡ rightBytes (rightsHeld P vs)
   unfolding rightsHeld
   rights-same =
       collect-same _ _ (P .skids) (λ s a.
-      collect-same _ _ (P .tanks) (λ o b. collect-same _ _ 3 (λ i c. one-same s o (getD rightNumbers i 0) a b) ∙ sym (bytes-collect (numbered P vs s o) 3))
+      collect-same _ _ (P .tanks) (λ o b. collect-same _ _ 3 (λ i c. one-same s o (getD allRights i 0) a b) ∙ sym (bytes-collect (numbered P vs s o) 3))
       ∙ sym (bytes-collect (rightsOn P vs s) (P .tanks)))
       ∙ sym (bytes-collect (rightsOf P vs) (P .skids))
 
-  pub written-listing : listIn (P .group) (P .rights) (m .running) (m .chosen) (P .skids) (P .tanks) ≡ listing (rightsHeld P vs)
+  pub written-listing : listBytesIn (P .«tank_group») (P .«task_rights») (m .running) (m .chosen) (P .skids) (P .tanks) ≡ listing (rightsHeld P vs)
   written-listing =
       ap (λ (l : List ℕ). length l / 3 ∷ l) rights-same
       ∙ ap (λ (n : ℕ). n ∷ rightBytes (rightsHeld P vs)) (let e : length (rightBytes (rightsHeld P vs)) / 3 ≡ length (rightsHeld P vs) = omega (arith, bytes-length (rightsHeld P vs)) in e)
@@ -188,4 +188,4 @@ module _ (m : Monitor) (i : intact (m .plant) m ≡ true) where
   -- at most 192 rights are held
   pub held-at-most : length (rightsHeld P vs) ≤ 192
   held-at-most =
-      omega (arith, list-short (P .group) (P .rights) (m .running) (m .chosen) (P .skids) (P .tanks) known, ap length rights-same, bytes-length (rightsHeld P vs))
+      omega (arith, list-short (P .«tank_group») (P .«task_rights») (m .running) (m .chosen) (P .skids) (P .tanks) known, ap length rights-same, bytes-length (rightsHeld P vs))

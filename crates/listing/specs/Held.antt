@@ -8,7 +8,7 @@ use lib.ListN.{length, getD}
 use Rattle.base.specs.Collect.{collect}
 use Rattle.base.specs.Rising.{In, Rising}
 use Rattle.plant.specs.declared.Plant.{Plant}
-use Rattle.plant.specs.Right.{rightNumbers}
+use Rattle.plant.specs.Right.{allRights}
 use Rattle.rules.specs.Rules.{View, holds}
 
 -- One right that a skid holds on a tank: the article's current access, an element of B.
@@ -33,7 +33,7 @@ module _ (P : Plant) (vs : ℕ → View) where
   rightAt s o r = cond (holds P (vs s) o r) (record { skid = s; tank = o; right = r } ∷ []) []
 
   abbrev pub rightsOn : ℕ → ℕ → List HeldRight
-  rightsOn s o = collect (λ i. rightAt s o (getD rightNumbers i 0)) (length rightNumbers)
+  rightsOn s o = collect (λ i. rightAt s o (getD allRights i 0)) (length allRights)
 
   abbrev pub rightsOf : ℕ → List HeldRight
   rightsOf s = collect (rightsOn s) (P .tanks)

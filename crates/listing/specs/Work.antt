@@ -7,7 +7,7 @@ use lib.ListN.{length, getD}
 use Rattle.base.specs.Below.{allBelow}
 use Rattle.base.specs.Collect.{collect}
 use Rattle.plant.specs.Checks.{entryBelow}
-use Rattle.plant.specs.Right.{rightNumbers}
+use Rattle.plant.specs.Right.{allRights}
 use Rattle.calls.specs.Work.{heldIn, taskKnown}
 
 -- what the writer leans on in the arrays
@@ -18,18 +18,18 @@ pub record Known (group running : List ℕ) (skids tanks : ℕ) : Type 0 where
   pub tasks-known : allBelow (taskKnown running) skids ≡ true
 
 module _ (group rights running chosen : List ℕ) where
-  abbrev pub rightIn : ℕ → ℕ → ℕ → List ℕ
-  rightIn s o r = cond (heldIn group rights running chosen s o r) (s ∷ o ∷ r ∷ []) []
+  abbrev pub rightBytesIn : ℕ → ℕ → ℕ → List ℕ
+  rightBytesIn s o r = cond (heldIn group rights running chosen s o r) (s ∷ o ∷ r ∷ []) []
 
-  abbrev pub tankIn : ℕ → ℕ → List ℕ
-  tankIn s o = collect (λ i. rightIn s o (getD rightNumbers i 0)) (length rightNumbers)
+  abbrev pub tankBytesIn : ℕ → ℕ → List ℕ
+  tankBytesIn s o = collect (λ i. rightBytesIn s o (getD allRights i 0)) (length allRights)
 
-  abbrev pub skidIn : ℕ → ℕ → List ℕ
-  skidIn tanks s = collect (tankIn s) tanks
+  abbrev pub skidBytesIn : ℕ → ℕ → List ℕ
+  skidBytesIn tanks s = collect (tankBytesIn s) tanks
 
-  abbrev pub skidsIn : ℕ → ℕ → List ℕ
-  skidsIn skids tanks = collect (skidIn tanks) skids
+  abbrev pub skidsBytesIn : ℕ → ℕ → List ℕ
+  skidsBytesIn skids tanks = collect (skidBytesIn tanks) skids
 
   -- the count, a third of the bytes, and the bytes
-  abbrev pub listIn : ℕ → ℕ → List ℕ
-  listIn skids tanks = length (skidsIn skids tanks) / 3 ∷ skidsIn skids tanks
+  abbrev pub listBytesIn : ℕ → ℕ → List ℕ
+  listBytesIn skids tanks = length (skidsBytesIn skids tanks) / 3 ∷ skidsBytesIn skids tanks

@@ -8,7 +8,7 @@ use borrow.Author.Tests.{ne-eqb}
 use Rattle.base.specs.Below.{allBelow}
 use Rattle.base.specs.Chain.{first}
 use Rattle.base.proofs.Chain.{first-append}
-use Rattle.layout.specs.Header.{placing, placingRefusal, countsOk}
+use Rattle.layout.specs.Header.{headerChecks, headerRefusal, countsOk}
 use Rattle.layout.proofs.Header.{counts-back, counts-in-range}
 use Rattle.plant.specs.declared.Plant.{Plant}
 use Rattle.plant.specs.Checks.{countsIn, recordChecks, plantRefusal}
@@ -21,12 +21,12 @@ module _ (file : List ℕ) where
   unfolding countsIn countsOk allBelow
   counts-same = refl
 
-  chained : openingRefusal file ≡ cond (eqb (placingRefusal file) 0) (first (recordChecks (latticeZeros file) (otherZeros file) (plantOf file))) (placingRefusal file)
-  unfolding openingRefusal placingRefusal
-  chained = first-append (placing file) (recordChecks (latticeZeros file) (otherZeros file) (plantOf file)) (refl, (refl, (refl, (refl, (refl, (refl, tt))))))
+  chained : openingRefusal file ≡ cond (eqb (headerRefusal file) 0) (first (recordChecks (latticeZeros file) (otherZeros file) (plantOf file))) (headerRefusal file)
+  unfolding openingRefusal headerRefusal
+  chained = first-append (headerChecks file) (recordChecks (latticeZeros file) (otherZeros file) (plantOf file)) (refl, (refl, (refl, (refl, (refl, (refl, tt))))))
 
   -- a file that passes 1 to 6 has the number of its record
-  record-number : placingRefusal file ≡ 0 → openingRefusal file ≡ plantRefusal (latticeZeros file) (otherZeros file) (plantOf file)
+  record-number : headerRefusal file ≡ 0 → openingRefusal file ≡ plantRefusal (latticeZeros file) (otherZeros file) (plantOf file)
   unfolding plantRefusal
   record-number e = chained ∙ rw (e, counts-same ∙ counts-back file (counts-in-range file e))
 
@@ -40,7 +40,7 @@ module _ (file : List ℕ) where
   accept e = rw (← e)
 
   -- r is the number from checks 1 to 6, and x what is returned
-  module _ {r : ℕ} (e : r ≡ placingRefusal file) where
+  module _ {r : ℕ} (e : r ≡ headerRefusal file) where
     pub refused-early : {x : Reading} → (r ≡ 0 → ⊥) → x ≡ refusedWith r → x ≡ readingOf file
     refused-early f h = h ∙ refuse (e ∙ sym (chained ∙ rw (← e, ne-eqb r 0 f))) f
 

@@ -6,7 +6,7 @@ use lib.Dec.{eqb}
 use lib.ListN.{replicate}
 use Rattle.base.specs.Chain.{Test, first}
 use Rattle.layout.specs.Layout.{lattices, requirements, groups, tanks, tasks, skids, width, limit, count, part, bytesOf, wordsOf, zerosAt}
-use Rattle.layout.specs.Header.{placing}
+use Rattle.layout.specs.Header.{headerChecks}
 use Rattle.plant.specs.declared.Plant.{Plant}
 use Rattle.plant.specs.Plant.{noPlant}
 use Rattle.plant.specs.Checks.{recordChecks}
@@ -47,8 +47,8 @@ abbrev pub tankLevel : Cell
 tankLevel = oneCell tanks 1
 
 -- Task: a byte that names requirements; a zero byte; eight bytes, one for the rights on each group.
-abbrev pub taskNames : Cell
-taskNames = firstCell tasks
+abbrev pub taskRequirements : Cell
+taskRequirements = firstCell tasks
 
 abbrev pub taskRights : Cell
 taskRights = record { section = tasks; from = 2; run = 8 }
@@ -88,15 +88,15 @@ plantOf file = record {
   tanks = count file tanks;
   tasks = count file tasks;
   skids = count file skids;
-  sizes = bytes file latticeSize;
-  sets = words file latticeSets;
-  lattice = bytes file requirementLattice;
-  requirement = bytes file groupRequirement;
-  group = bytes file tankGroup;
-  level = bytes file tankLevel;
-  names = bytes file taskNames;
-  rights = bytes file taskRights;
-  may = words file skidTasks;
+  «lattice_sizes» = bytes file latticeSize;
+  «lattice_sets» = words file latticeSets;
+  «requirement_lattice» = bytes file requirementLattice;
+  «group_requirement» = bytes file groupRequirement;
+  «tank_group» = bytes file tankGroup;
+  «tank_level» = bytes file tankLevel;
+  «task_requirements» = bytes file taskRequirements;
+  «task_rights» = bytes file taskRights;
+  «skid_tasks» = words file skidTasks;
 }
 
 -- the zero byte of each record of section k
@@ -112,7 +112,7 @@ otherZeros file = zeros file requirements && (zeros file groups && zeros file ta
 
 -- opening's twelve checks in their order, each over the whole file before the next
 abbrev pub openingChecks : List ℕ → List Test
-openingChecks file = placing file ++ recordChecks (latticeZeros file) (otherZeros file) (plantOf file)
+openingChecks file = headerChecks file ++ recordChecks (latticeZeros file) (otherZeros file) (plantOf file)
 
 -- the number of the first check that fails, or 0
 unfoldable pub openingRefusal : List ℕ → ℕ

@@ -47,7 +47,7 @@ fn all_within<'a>(further: &'a [u16; 16], strict: &'a [u16; 16]) -> bool
 }
 
 // 8: the levels are in order. Each is under itself, and what lies above the levels strictly above it lies strictly above it: whole sets are
-// joined and compared, and no single pair of levels. A level that is not used is in no set.
+// united and compared, and no single pair of levels. A level that is not used is in no set.
 pub fn in_order(s: &[u16; 16], n: usize) -> bool
     requires { ⌜ Layout (withSets n (now s)) ⌝ }
     ensures { λ r. ⌜ r ≡ ordered n (underIn (now (s .entry))) ⌝ }

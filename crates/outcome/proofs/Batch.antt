@@ -17,7 +17,7 @@ use Rattle.opening.proofs.Opening.{opens}
 use Rattle.rules.specs.declared.Monitor.{Monitor}
 use Rattle.rules.specs.Rules.{Call, gate, unknown, answer}
 use Rattle.rules.specs.Record.{fresh, reply, final, viewOf, intact}
-use Rattle.rules.specs.History.{dues, history, past}
+use Rattle.rules.specs.History.{historyAnswers, history, historyView}
 use Rattle.rules.specs.Rights.{Gives}
 use Rattle.rules.specs.Demand.{Demand3}
 use Rattle.rules.proofs.Demand.{demand3}
@@ -45,22 +45,22 @@ module _ (P : Plant) (q : plantRefusal true true P ≡ 0) (W : Sound P) (cs : Li
   given : (s o r : ℕ) → HeldIn P (viewOf P (final (fresh P) cs)) s o r ↔ Gives P (history P [] cs) s o r
   given s o r = (λ h. D .held s o r (h .tank) (h .right) .0 (h .held), λ G. gate-held s o r (D .gates s o r .1 G))
 
-  listed-gives : Lists (Gives P (history P [] cs)) (rightsHeld P (past P (history P [] cs)))
+  listed-gives : Lists (Gives P (history P [] cs)) (rightsHeld P (historyView P (history P [] cs)))
   listed-gives =
       lists-same (HeldIn P (viewOf P (final (fresh P) cs))) (Gives P (history P [] cs)) _ given
       (subst (Lists (HeldIn P (viewOf P (final (fresh P) cs)))) (same-rights P q cs) (rights-listed P (viewOf P (final (fresh P) cs))))
 
-  listed-gates : Lists (λ s o r. reply P (final (fresh P) cs) (gate s o r) ≡ 0) (rightsHeld P (past P (history P [] cs)))
+  listed-gates : Lists (λ s o r. reply P (final (fresh P) cs) (gate s o r) ≡ 0) (rightsHeld P (historyView P (history P [] cs)))
   listed-gates = lists-same (Gives P (history P [] cs)) _ _ (λ s o r. (D .gates s o r .1, D .gates s o r .0)) listed-gives
 
-  short : length (rightsHeld P (past P (history P [] cs))) ≤ 192
+  short : length (rightsHeld P (historyView P (history P [] cs))) ≤ 192
   short =
       let A = list-agree P W cs (fresh P) [] (fresh-agree P W) in
       let m : Monitor = final (fresh P) cs in
       subst (λ (l : List HeldRight). length l ≤ 192) (same-rights P q cs)
       (subst (λ (p : Plant). length (rightsHeld p (viewOf p m)) ≤ 192) (A .kept) (held-at-most m (subst (λ (p : Plant). intact p m ≡ true) (sym (A .kept)) (D .never-20))))
 
-  answered : length (dues P [] cs) ≡ length cs
+  answered : length (historyAnswers P [] cs) ≡ length cs
   answered = ap length (sym (same-answers P q cs)) ∙ runs-length cs (fresh P)
 
 -- the outcome's bytes in the buffer
@@ -110,7 +110,7 @@ module _ (plant requests out : List ℕ) where
   accepted : Admits plant requests out → batchRefusal plant requests (length out) ≡ 0
   accepted A = made ∙ sym (by-none _ (length requests) (length out) (zero (A .plant-admitted)) (omega (arith, A .whole-requests)) (A .room))
 
-  bytes : batchRefusal plant requests (length out) ≡ 0 → batchOut plant requests out ≡ overlay out 0 (dues (P plant requests out) [] (calls plant requests out) ++ listing (held plant requests out))
+  bytes : batchRefusal plant requests (length out) ≡ 0 → batchOut plant requests out ≡ overlay out 0 (historyAnswers (P plant requests out) [] (calls plant requests out) ++ listing (held plant requests out))
   unfolding batchOut outcome
   bytes e = rw e
 
@@ -121,25 +121,25 @@ module _ (plant requests out : List ℕ) where
       let cs : List Call = calls plant requests out in
       let q = plant-passes plant refl (zero (A .plant-admitted)) in
       let W = opens plant .sound (A .plant-admitted) in
-      let a : length (dues p [] cs) ≡ n = answered p q W cs ∙ calls-length requests n in
+      let a : length (historyAnswers p [] cs) ≡ n = answered p q W cs ∙ calls-length requests n in
       let l : List HeldRight = held plant requests out in
       let s : length l ≤ 192 = short p q W cs in
       let r : n + (1 + length l * 3) ≤ length out = omega (arith, A .room) in
-      let at : (i j : ℕ) → i ≡ j → getD (batchOut plant requests out) i 0 ≡ getD (overlay out 0 (dues p [] cs ++ listing l)) j 0 = λ i j f. ap₂ (λ (x : List ℕ) (k : ℕ). getD x k 0) (bytes e) f in
+      let at : (i j : ℕ) → i ≡ j → getD (batchOut plant requests out) i 0 ≡ getD (overlay out 0 (historyAnswers p [] cs ++ listing l)) j 0 = λ i j f. ap₂ (λ (x : List ℕ) (k : ℕ). getD x k 0) (bytes e) f in
       record {
         as-many = calls-length requests n;
         in-order = λ i h. calls-at requests n i unknown h;
         demand = demand3 p W cs;
-        answers = λ i h. at i i refl ∙ at-answer (dues p [] cs) l out n a r i h;
+        answers = λ i h. at i i refl ∙ at-answer (historyAnswers p [] cs) l out n a r i h;
         rights = listed-gives p q W cs;
         gates = listed-gates p q W cs;
         at-most = s;
-        count = at n (n + 0) (let f : n ≡ n + 0 = omega arith in f) ∙ at-listing (dues p [] cs) l out n a r 0 (omega arith);
-        skids = λ i h. at (n + (1 + i * 3)) (n + (1 + i * 3)) refl ∙ at-right (dues p [] cs) l out n a r (1 + i * 3) (i * 3) (omega arith) (omega arith) ∙ bytes-at l none i h .0;
-        tanks = λ i h. at (n + (2 + i * 3)) (n + (2 + i * 3)) refl ∙ at-right (dues p [] cs) l out n a r (2 + i * 3) (i * 3 + 1) (omega arith) (omega arith) ∙ bytes-at l none i h .1 .0;
-        right-numbers = λ i h. at (n + (3 + i * 3)) (n + (3 + i * 3)) refl ∙ at-right (dues p [] cs) l out n a r (3 + i * 3) (i * 3 + 2) (omega arith) (omega arith) ∙ bytes-at l none i h .1 .1;
-        as-long = ap length (bytes e) ∙ kept-length (dues p [] cs) l out n a r;
-        rest = λ i h. at i i refl ∙ at-rest (dues p [] cs) l out n a r i h;
+        count = at n (n + 0) (let f : n ≡ n + 0 = omega arith in f) ∙ at-listing (historyAnswers p [] cs) l out n a r 0 (omega arith);
+        skids = λ i h. at (n + (1 + i * 3)) (n + (1 + i * 3)) refl ∙ at-right (historyAnswers p [] cs) l out n a r (1 + i * 3) (i * 3) (omega arith) (omega arith) ∙ bytes-at l none i h .0;
+        tanks = λ i h. at (n + (2 + i * 3)) (n + (2 + i * 3)) refl ∙ at-right (historyAnswers p [] cs) l out n a r (2 + i * 3) (i * 3 + 1) (omega arith) (omega arith) ∙ bytes-at l none i h .1 .0;
+        right-numbers = λ i h. at (n + (3 + i * 3)) (n + (3 + i * 3)) refl ∙ at-right (historyAnswers p [] cs) l out n a r (3 + i * 3) (i * 3 + 2) (omega arith) (omega arith) ∙ bytes-at l none i h .1 .1;
+        as-long = ap length (bytes e) ∙ kept-length (historyAnswers p [] cs) l out n a r;
+        rest = λ i h. at i i refl ∙ at-rest (historyAnswers p [] cs) l out n a r i h;
       }
 
   pub batch : Batch plant requests out

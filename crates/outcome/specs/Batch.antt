@@ -9,8 +9,8 @@ use Rattle.base.specs.Overlay.{overlay}
 use Rattle.plant.specs.declared.Plant.{Plant}
 use Rattle.opening.specs.Reading.{openingChecks, readingOf}
 use Rattle.rules.specs.Rules.{Call}
-use Rattle.rules.specs.History.{past, dues, history}
-use Rattle.batch.specs.Requests.{callsOf}
+use Rattle.rules.specs.History.{historyView, historyAnswers, history}
+use Rattle.batch.specs.RequestBytes.{callsOf}
 use Rattle.listing.specs.Held.{rightsHeld, listing}
 
 -- how many requests so many bytes are, five each
@@ -35,7 +35,7 @@ refusalBy opening bytes room = cond (eqb opening 0) (first (sizeChecks bytes roo
 
 -- What a list of calls brings from the fresh monitor: the answers that its history gives, and the rights that it gives at the end.
 unfoldable pub outcome : Plant → List Call → List ℕ
-outcome P cs = dues P [] cs ++ listing (rightsHeld P (past P (history P [] cs)))
+outcome P cs = historyAnswers P [] cs ++ listing (rightsHeld P (historyView P (history P [] cs)))
 
 -- the calls of a batch
 abbrev pub batchCalls : List ℕ → List Call

@@ -10,10 +10,10 @@ use Rattle.base.specs.Chain.{Breaks}
 use Rattle.opening.specs.Reading.{readingOf}
 use Rattle.rules.specs.Rules.{Call, gate, unknown}
 use Rattle.rules.specs.Record.{fresh, reply, final}
-use Rattle.rules.specs.History.{dues, history, past}
+use Rattle.rules.specs.History.{historyAnswers, history, historyView}
 use Rattle.rules.specs.Rights.{Gives}
 use Rattle.rules.specs.Demand.{Demand3}
-use Rattle.batch.specs.Requests.{callAt}
+use Rattle.batch.specs.RequestBytes.{callAt}
 use Rattle.listing.specs.Held.{HeldRight, Lists, rightsHeld}
 use Rattle.outcome.specs.Batch.{requestCount, batchRefusal, batchCalls, batchOut}
 
@@ -35,7 +35,7 @@ module _ (plant requests out : List ℕ) where
   calls = batchCalls requests
 
   abbrev pub held : List HeldRight
-  held = rightsHeld P (past P (history P [] calls))
+  held = rightsHeld P (historyView P (history P [] calls))
 
   -- After an accepted batch.
   pub record Served : Type 0 where
@@ -44,7 +44,7 @@ module _ (plant requests out : List ℕ) where
     pub in-order : (i : ℕ) → i < requestCount requests → getD calls i unknown ≡ callAt requests i
     pub demand : Demand3 P calls
     -- answer i is the one that the history gives to request i
-    pub answers : (i : ℕ) → i < requestCount requests → getD (batchOut plant requests out) i 0 ≡ getD (dues P [] calls) i 0
+    pub answers : (i : ℕ) → i < requestCount requests → getD (batchOut plant requests out) i 0 ≡ getD (historyAnswers P [] calls) i 0
     -- the listed rights are exactly those that the history gives, each once, rising; these are those for which a gate call would return 0
     pub rights : Lists (Gives P (history P [] calls)) held
     pub gates : Lists (λ s o r. reply P (final (fresh P) calls) (gate s o r) ≡ 0) held

@@ -6,7 +6,7 @@ ghost use lib.ListN.{length};
 ghost use Rattle.base.specs.Overlay.{overlay};
 ghost use Rattle.layout.specs.Header.{sectionPlace};
 ghost use Rattle.plant.specs.Checks.{plantRefusal};
-ghost use Rattle.batch.specs.Requests.{callsOf};
+ghost use Rattle.batch.specs.RequestBytes.{callsOf};
 ghost use Rattle.outcome.specs.Batch.{refusalBy, outcome, batchRefusal, batchOut};
 use batch::serve;
 use held::write_held;
@@ -23,8 +23,8 @@ fn write_outcome(p: Plant, requests: &[u8], n: usize, out: &mut [u8])
 {
     let parts = serve(p, requests, n, out);
     write_held(
-        &p.group,
-        &p.rights,
+        &p.tank_group,
+        &p.task_rights,
         &parts.running,
         &parts.chosen,
         p.skids,

@@ -4,7 +4,7 @@ ghost use Prim.Native.Nat.{_+_, _<_, _≤_};
 ghost use lib.ListN.{length};
 ghost use Rattle.base.specs.Below.{allBelow};
 ghost use Rattle.layout.specs.Layout.{sections, headerBytes, end, part, place};
-ghost use Rattle.layout.specs.Header.{inside, allInside, apart, allApart, placingRefusal, noPlace, sectionPlace, sectionOf};
+ghost use Rattle.layout.specs.Header.{inside, allInside, apart, allApart, headerRefusal, noPlace, sectionPlace, sectionOf};
 use header::HEADER_BYTES;
 use header::SECTIONS;
 use header::counts_ok;
@@ -68,8 +68,8 @@ fn all_apart(file: &[u8]) -> bool
 }
 
 // The first of 1 to 6 that fails, or 0.
-pub fn placing_refusal(file: &[u8]) -> u8
-    ensures { λ r. ⌜ r ≡ placingRefusal (now (file .entry)) ⌝ }
+pub fn header_refusal(file: &[u8]) -> u8
+    ensures { λ r. ⌜ r ≡ headerRefusal (now (file .entry)) ⌝ }
 {
     if !length_ok(file) {
         return 1;
@@ -94,7 +94,7 @@ pub fn placing_refusal(file: &[u8]) -> u8
 
 // The part of the file that a section fills.
 pub fn part_of(file: &[u8], kind: usize) -> &[u8]
-    requires { ⌜ (placingRefusal (now file) ≡ 0) × (kind < sections) ⌝ }
+    requires { ⌜ (headerRefusal (now file) ≡ 0) × (kind < sections) ⌝ }
     ensures { λ r. ⌜ now r ≡ part (now (file .entry)) kind ⌝ }
 {
     let off = offset_of(file, kind);
@@ -115,7 +115,7 @@ fn no_place() -> Place
 pub fn section_place(file: &[u8], kind: usize) -> Place
     ensures { λ r. ⌜ r ≡ sectionPlace (now (file .entry)) kind ⌝ }
 {
-    if placing_refusal(file) != 0 {
+    if header_refusal(file) != 0 {
         return no_place();
     }
     if SECTIONS <= kind {

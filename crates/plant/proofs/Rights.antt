@@ -14,7 +14,7 @@ use Rattle.base.proofs.Bits.{no-bits, and-power}
 use Rattle.plant.specs.declared.Plant.{Plant}
 use Rattle.plant.specs.Plant.{rightsOf, namesRight, needs}
 use Rattle.plant.specs.Checks.{Numbers}
-use Rattle.plant.specs.Right.{rightNumbers, hasRight, RightsNumbered}
+use Rattle.plant.specs.Right.{allRights, hasRight, RightsNumbered}
 
 pub has-bit : (x r : ℕ) → r < 3 → hasRight x r ≡ bit x r
 has-bit x r l = rw (le-leb r 2 (omega arith)) (and-power x r)
@@ -38,13 +38,13 @@ needs-names p N t g l m n =
     (λ c. absurd (eqb-false x 0 (not-true _ n) (no-bits x (no-bit x a b c (λ i e. N .rights-known t g i l m e)))))))
 
 -- the rights in their order are their numbers
-pub number-at : (i : ℕ) → i < 3 → getD rightNumbers i 0 ≡ i
+pub number-at : (i : ℕ) → i < 3 → getD allRights i 0 ≡ i
 number-at zero l = refl
 number-at (suc zero) l = refl
 number-at (suc (suc zero)) l = refl
 number-at (suc (suc (suc i))) l = absurd (omega arith)
 
-pub number-rises : (i j : ℕ) → i < j → j < 3 → getD rightNumbers i 0 < getD rightNumbers j 0
+pub number-rises : (i j : ℕ) → i < j → j < 3 → getD allRights i 0 < getD allRights j 0
 number-rises i j l m = omega (arith, number-at i (omega arith), number-at j m)
 
 pub rights-numbered : RightsNumbered

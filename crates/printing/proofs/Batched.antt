@@ -17,7 +17,7 @@ use Rattle.layout.specs.Layout.{byteAt}
 use Rattle.plant.specs.declared.Plant.{Plant}
 use Rattle.opening.specs.Reading.{readingOf}
 use Rattle.rules.specs.Rules.{Call}
-use Rattle.rules.specs.History.{past, dues, history, note}
+use Rattle.rules.specs.History.{historyView, historyAnswers, history, withCall}
 use Rattle.batch.proofs.Served.{calls-length}
 use Rattle.listing.specs.Held.{HeldRight, rightsHeld, rightBytes}
 use Rattle.listing.proofs.Listed.{bytes-length}
@@ -48,23 +48,23 @@ module _ (n : ℕ) (xs ys : List ℕ) (h : (i : ℕ) → i < n + (1 + byteAt ys 
   accepted-same = accepted-lines 0 n xs refl ∙ ap₂ (λ (a b : List ℕ). a ++ b) answers-same rights-same ∙ sym (accepted-lines 0 n ys refl)
 
 -- an answer for each call
-dues-length : (P : Plant) (cs a : List Call) → length (dues P a cs) ≡ length cs
-unfolding dues
-dues-length P [] a = refl
-dues-length P (c ∷ cs) a = ap suc (dues-length P cs (note P a c))
+answers-length : (P : Plant) (cs a : List Call) → length (historyAnswers P a cs) ≡ length cs
+unfolding historyAnswers
+answers-length P [] a = refl
+answers-length P (c ∷ cs) a = ap suc (answers-length P cs (withCall P a c))
 
 -- the outcome in a buffer
 module _ (P : Plant) (cs : List Call) (n : ℕ) (a : length cs ≡ n) where
   abbrev held : List HeldRight
-  held = rightsHeld P (past P (history P [] cs))
+  held = rightsHeld P (historyView P (history P [] cs))
 
   outcome-length : length (outcome P cs) ≡ n + (1 + length held * 3)
   unfolding outcome
-  outcome-length = omega (arith, length-append (dues P [] cs) (length held ∷ rightBytes held), dues-length P cs [], bytes-length held)
+  outcome-length = omega (arith, length-append (historyAnswers P [] cs) (length held ∷ rightBytes held), answers-length P cs [], bytes-length held)
 
   outcome-count : byteAt (outcome P cs) n ≡ length held
   unfolding outcome
-  outcome-count = ap (λ (k : ℕ). byteAt (outcome P cs) k) (sym (dues-length P cs [] ∙ a)) ∙ getD-append-seam (dues P [] cs) (length held) (rightBytes held) 0
+  outcome-count = ap (λ (k : ℕ). byteAt (outcome P cs) k) (sym (answers-length P cs [] ∙ a)) ∙ getD-append-seam (historyAnswers P [] cs) (length held) (rightBytes held) 0
 
   pub overlaid-lines : (out : List ℕ) → outcomeLines 0 n (overlay out 0 (outcome P cs)) ≡ outcomeLines 0 n (outcome P cs)
   overlaid-lines out = accepted-same n (overlay out 0 (outcome P cs)) (outcome P cs)

@@ -10,7 +10,7 @@ use lib.Dec.{eqb}
 use lib.ListN.{length, length-append}
 use borrow.Author.Tests.{ne-eqb}
 use Rattle.base.specs.Overlay.{Wrote}
-use Rattle.base.proofs.Written.{joined}
+use Rattle.base.proofs.Written.{appended}
 use Rattle.printing.specs.Decimal.{decimal, place}
 use Rattle.printing.proofs.Decimal.{tenth-some, decimal-small, decimal-more}
 
@@ -52,4 +52,4 @@ module _ (n : ℕ) (h : 10 ≤ n) (l : n < 100000) where
 
   -- the places written one behind the other
   pub wrote-places : {out out₁ out₂ out₃ out₄ out₅ : List ℕ} {at at₁ at₂ at₃ at₄ at₅ : ℕ} → at + length (decimal n) ≤ length out → Wrote (place (n / 10000)) out at out₁ at₁ → Wrote (place (n / 1000)) out₁ at₁ out₂ at₂ → Wrote (place (n / 100)) out₂ at₂ out₃ at₃ → Wrote (place (n / 10)) out₃ at₃ out₄ at₄ → Wrote (place n) out₄ at₄ out₅ at₅ → Wrote (decimal n) out at out₅ at₅
-  wrote-places room a b c d e = rw number-places (let room′ = rw number-places at room in search joined depth 12)
+  wrote-places room a b c d e = rw number-places (let room′ = rw number-places at room in search appended depth 12)

@@ -2,7 +2,7 @@
 ghost use mathlib.Core.Path.{_≡_};
 ghost use Prim.Native.Nat.{_<_};
 ghost use Rattle.layout.specs.Layout.{sections, width};
-ghost use Rattle.layout.specs.Header.{placingRefusal};
+ghost use Rattle.layout.specs.Header.{headerRefusal};
 ghost use Rattle.plant.specs.Plant.{noPlant};
 ghost use Rattle.opening.specs.Reading.{zeroByte, zeros, otherZeros, refusedWith, readingOf};
 use cells::zeros_at;
@@ -14,8 +14,8 @@ use header::TASKS;
 use header::count_of;
 use header::width_of;
 use opening::Reading;
+use parts::header_refusal;
 use parts::part_of;
-use parts::placing_refusal;
 use plant::Plant;
 use records::plant_from;
 
@@ -32,21 +32,21 @@ fn no_plant() -> Plant
         tanks: 0,
         tasks: 0,
         skids: 0,
-        sizes: [0u8; 8],
-        sets: [0u16; 128],
-        lattice: [0u8; 8],
-        requirement: [0u8; 8],
-        group: [0u8; 64],
-        level: [0u8; 64],
-        names: [0u8; 16],
-        rights: [0u8; 128],
-        may: [0u16; 8],
+        lattice_sizes: [0u8; 8],
+        lattice_sets: [0u16; 128],
+        requirement_lattice: [0u8; 8],
+        group_requirement: [0u8; 8],
+        tank_group: [0u8; 64],
+        tank_level: [0u8; 64],
+        task_requirements: [0u8; 16],
+        task_rights: [0u8; 128],
+        skid_tasks: [0u16; 8],
     }
 }
 
 // Whether the zero byte of each record of a section is zero.
 fn zeros_in(file: &[u8], kind: usize) -> bool
-    requires { ⌜ (placingRefusal (now file) ≡ 0) × (kind < sections) ⌝ }
+    requires { ⌜ (headerRefusal (now file) ≡ 0) × (kind < sections) ⌝ }
     requires { ⌜ zeroByte < width kind ⌝ }
     ensures { λ r. ⌜ r ≡ zeros (now (file .entry)) kind ⌝ }
 {
@@ -55,7 +55,7 @@ fn zeros_in(file: &[u8], kind: usize) -> bool
 }
 
 fn other_zeros(file: &[u8]) -> bool
-    requires { ⌜ placingRefusal (now file) ≡ 0 ⌝ }
+    requires { ⌜ headerRefusal (now file) ≡ 0 ⌝ }
     ensures { λ r. ⌜ r ≡ otherZeros (now (file .entry)) ⌝ }
 {
     if !zeros_in(file, REQUIREMENTS) {
@@ -80,7 +80,7 @@ fn refused(number: u8) -> Reading
 pub fn read(file: &[u8]) -> Reading
     ensures { λ r. ⌜ r ≡ readingOf (now (file .entry)) ⌝ }
 {
-    let number = placing_refusal(file);
+    let number = header_refusal(file);
     if number != 0 {
         return refused(number);
     }

@@ -2,8 +2,8 @@
 ghost use mathlib.Core.Path.{_≡_};
 ghost use Prim.Native.Nat.{_<_};
 ghost use Rattle.layout.specs.Layout.{lattices, tanks, tasks, skids, sections, width, limit, Records};
-ghost use Rattle.layout.specs.Header.{placingRefusal};
-ghost use Rattle.opening.specs.Reading.{oneCell, firstCell, latticeSets, taskNames, taskRights, skidTasks, bytesIn, wordsIn, plantOf};
+ghost use Rattle.layout.specs.Header.{headerRefusal};
+ghost use Rattle.opening.specs.Reading.{oneCell, firstCell, latticeSets, taskRequirements, taskRights, skidTasks, bytesIn, wordsIn, plantOf};
 use cells::bytes_into;
 use cells::words_into;
 use header::GROUPS;
@@ -28,7 +28,7 @@ const TANK_GROUP: usize = 0;
 
 const TANK_LEVEL: usize = 1;
 
-const TASK_NAMES: usize = 0;
+const TASK_REQUIREMENTS: usize = 0;
 
 const TASK_RIGHTS: usize = 2;
 
@@ -72,10 +72,10 @@ fn read_tanks(s: &[u8], n: usize, from: usize) -> [u8; 64]
 // The requirements that each task names.
 fn read_names(s: &[u8], n: usize) -> [u8; 16]
     requires { ⌜ Records (now s) tasks n ⌝ }
-    ensures { λ r. ⌜ r ≡ bytesIn taskNames (now (s .entry)) n ⌝ }
+    ensures { λ r. ⌜ r ≡ bytesIn taskRequirements (now (s .entry)) n ⌝ }
 {
     let mut out = [0u8; 16];
-    bytes_into(s, width_of(TASKS), TASK_NAMES, 1, n, &mut out);
+    bytes_into(s, width_of(TASKS), TASK_REQUIREMENTS, 1, n, &mut out);
     out
 }
 
@@ -101,7 +101,7 @@ fn read_skids(s: &[u8], n: usize) -> [u16; 8]
 
 // The plant that the records make.
 pub fn plant_from(file: &[u8]) -> Plant
-    requires { ⌜ placingRefusal (now file) ≡ 0 ⌝ }
+    requires { ⌜ headerRefusal (now file) ≡ 0 ⌝ }
     ensures { λ r. ⌜ r ≡ plantOf (now (file .entry)) ⌝ }
 {
     let lattices = count_byte(file, LATTICES);
@@ -120,18 +120,18 @@ pub fn plant_from(file: &[u8]) -> Plant
         tanks: tanks,
         tasks: tasks,
         skids: skids,
-        sizes: read_eight(of_lattices, LATTICES, lattices as usize),
-        sets: read_sets(of_lattices, lattices as usize),
-        lattice: read_eight(
+        lattice_sizes: read_eight(of_lattices, LATTICES, lattices as usize),
+        lattice_sets: read_sets(of_lattices, lattices as usize),
+        requirement_lattice: read_eight(
             part_of(file, REQUIREMENTS),
             REQUIREMENTS,
             requirements as usize,
         ),
-        requirement: read_eight(part_of(file, GROUPS), GROUPS, groups as usize),
-        group: read_tanks(of_tanks, tanks as usize, TANK_GROUP),
-        level: read_tanks(of_tanks, tanks as usize, TANK_LEVEL),
-        names: read_names(of_tasks, tasks as usize),
-        rights: read_rights(of_tasks, tasks as usize),
-        may: read_skids(part_of(file, SKIDS), skids as usize),
+        group_requirement: read_eight(part_of(file, GROUPS), GROUPS, groups as usize),
+        tank_group: read_tanks(of_tanks, tanks as usize, TANK_GROUP),
+        tank_level: read_tanks(of_tanks, tanks as usize, TANK_LEVEL),
+        task_requirements: read_names(of_tasks, tasks as usize),
+        task_rights: read_rights(of_tasks, tasks as usize),
+        skid_tasks: read_skids(part_of(file, SKIDS), skids as usize),
     }
 }

@@ -5,7 +5,7 @@ ghost use lib.Dec.{eqb};
 ghost use Prim.Native.Nat.{_<_, _≤_};
 ghost use Rattle.base.specs.Below.{allBelow};
 ghost use Rattle.base.specs.Bits.{bit};
-ghost use Rattle.lattice.specs.Sets.{underIn, Sound, Turned, numbersTo, upperRow, marked};
+ghost use Rattle.lattice.specs.Sets.{underIn, OrderedSets, Turned, numbersTo, upperRow, marked};
 ghost use Rattle.lattice.specs.Table.{joinRow};
 use sets::byte_where;
 use sets::has;
@@ -72,7 +72,7 @@ fn mark(row: &mut [u8; 16], s: &[u16; 16], x: u16, k: usize)
 // A level that is a join with level i is above it, so the others are passed over. Entries from n on stay 255: a set that is not used shares
 // nothing.
 fn searched_row(s: &[u16; 16], n: usize, i: usize) -> [u8; 16]
-    requires { ⌜ Sound n (now s) × (i < n) ⌝ }
+    requires { ⌜ OrderedSets n (now s) × (i < n) ⌝ }
     ensures { λ r. ⌜ r ≡ joinRow n (underIn (now (s .entry))) i ⌝ }
 {
     let x = s[i];
@@ -96,7 +96,7 @@ pub fn join_row<'a, 'b>(
     n: usize,
     i: usize,
 ) -> [u8; 16]
-    requires { ⌜ Sound n (now s) × (i < n) ⌝ }
+    requires { ⌜ OrderedSets n (now s) × (i < n) ⌝ }
     requires { ⌜ Turned n (now s) (now t) × (now numbers ≡ numbersTo n) ⌝ }
     ensures { λ r. ⌜ r ≡ joinRow n (underIn (now (s .entry))) i ⌝ }
 {

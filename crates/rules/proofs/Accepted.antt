@@ -9,7 +9,7 @@ use borrow.Author.Tests.{leb-false, lt-leb, eqb-true, eqb-false, not-false}
 use Rattle.plant.specs.declared.Plant.{Plant}
 use Rattle.choice.specs.Choice.{unset}
 use Rattle.plant.specs.Plant.{levelsOf, mayRun}
-use Rattle.rules.specs.Rules.{Call, set, start, stop, gate, unknown, View, conditions, refusal, blank, lacking, answer, granted, holds}
+use Rattle.rules.specs.Rules.{Call, set, start, stop, gate, unknown, View, conditions, refusal, blank, lacking, answer, acceptedAnswer, holds}
 use Rattle.base.proofs.Logic.{split}
 use Rattle.base.specs.Chain.{Clear}
 use Rattle.base.proofs.Chain.{Numbered, clear}
@@ -80,7 +80,7 @@ module _ (P : Plant) (vs : ℕ → View) where
 
   -- a gate answers 0 exactly where it is accepted and the right is held
   pub gate-zero : (s o r : ℕ) → answer P vs (gate s o r) ≡ 0 ↔ GateOk s o r × (holds P (vs s) o r ≡ true)
-  unfolding answer granted
+  unfolding answer acceptedAnswer
   gate-zero s o r = (to, λ k. rw (gate-let s o r (k .0), k .1))
     where
       to : answer P vs (gate s o r) ≡ 0 → GateOk s o r × (holds P (vs s) o r ≡ true)

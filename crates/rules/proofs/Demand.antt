@@ -13,14 +13,14 @@ use Rattle.plant.specs.Checks.{Sound}
 use Rattle.rules.specs.Demand.{Demand3}
 use Rattle.rules.specs.Rules.{Call, gate, holds}
 use Rattle.rules.specs.Record.{fresh, viewOf, reply, replies, final}
-use Rattle.rules.specs.History.{Started, idle, since, startIn, taskOf, past, dues, history, own}
+use Rattle.rules.specs.History.{LastStart, idle, since, lastStart, startedTask, historyView, historyAnswers, history, callsNaming}
 use Rattle.rules.specs.Rights.{Runs, Gives}
 use Rattle.rules.proofs.Accepted.{gate-zero}
 use Rattle.rules.proofs.Agree.{Agree, fresh-agree, list-agree, list-replies, intact-true}
 use Rattle.rules.proofs.Kept.{AllAccepted}
 use Rattle.rules.proofs.Rights.{started-runs, runs-started, start-was}
 use Rattle.rules.proofs.Gives.{gives-holds, holds-gives, one-tank}
-use Rattle.rules.proofs.Strike.{strike-past, strike-dues}
+use Rattle.rules.proofs.Strike.{strike-view, strike-answers}
 
 module _ (P : Plant) (W : Sound P) (cs : List Call) where
   X : Valid P
@@ -29,13 +29,13 @@ module _ (P : Plant) (W : Sound P) (cs : List Call) where
   agree : (l : List Call) → Agree P (final (fresh P) l) (history P [] l)
   agree l = list-agree P W l (fresh P) [] (fresh-agree P W)
 
-  answers-of : (l : List Call) → replies (fresh P) l ≡ dues P [] l
+  answers-of : (l : List Call) → replies (fresh P) l ≡ historyAnswers P [] l
   answers-of l = list-replies P W l (fresh P) [] (fresh-agree P W)
 
   S : AllAccepted P (history P [] cs)
   S = agree cs .sound
 
-  same : (s : ℕ) → viewOf P (final (fresh P) cs) s ≡ past P (history P [] cs) s
+  same : (s : ℕ) → viewOf P (final (fresh P) cs) s ≡ historyView P (history P [] cs) s
   same s = agree cs .views s
 
   held : (s o r : ℕ) → o < P .tanks → r < 3 → holds P (viewOf P (final (fresh P) cs) s) o r ≡ true ↔ Gives P (history P [] cs) s o r
@@ -52,12 +52,12 @@ module _ (P : Plant) (W : Sound P) (cs : List Call) where
   )
 
   task : (s t : ℕ) → t ≢ unset → (viewOf P (final (fresh P) cs) s) .running ≡ t ↔ ((b : List Call) × Runs (history P [] cs) s t b)
-  unfolding past
-  task s t n = rw (same s) (go (startIn (history P [] cs) s) refl, λ R. rw (runs-started P (X .counts) (history P [] cs) s t (R .0) S (R .1)))
+  unfolding historyView
+  task s t n = rw (same s) (go (lastStart (history P [] cs) s) refl, λ R. rw (runs-started P (X .counts) (history P [] cs) s t (R .0) S (R .1)))
     where
-      go : (z : Started) → startIn (history P [] cs) s ≡ z → taskOf (startIn (history P [] cs) s) ≡ t → (b : List Call) × Runs (history P [] cs) s t b
-      go idle e h = absurd (n (sym h ∙ ap taskOf e))
-      go (since t′ b) e h = (b, started-runs (history P [] cs) s t b (e ∙ ap (λ x. since x b) (sym (ap taskOf e) ∙ h)))
+      go : (z : LastStart) → lastStart (history P [] cs) s ≡ z → startedTask (lastStart (history P [] cs) s) ≡ t → (b : List Call) × Runs (history P [] cs) s t b
+      go idle e h = absurd (n (sym h ∙ ap startedTask e))
+      go (since t′ b) e h = (b, started-runs (history P [] cs) s t b (e ∙ ap (λ x. since x b) (sym (ap startedTask e) ∙ h)))
 
   tank : (s g r : ℕ) → (viewOf P (final (fresh P) cs) s) .running ≢ unset → g < P .groups → r < 3
       → namesRight P ((viewOf P (final (fresh P) cs) s) .running) r g ≡ true
@@ -84,6 +84,6 @@ module _ (P : Plant) (W : Sound P) (cs : List Call) where
     task = task;
     tank = tank;
     nothing = nothing;
-    struck-answers = λ s. rw (answers-of cs, answers-of (own s cs)) (strike-dues P s cs [] [] tt tt refl);
-    struck-rights = λ s o r. ap (λ w. holds P w o r) (same s ∙ strike-past P s cs [] [] tt tt refl ∙ sym (agree (own s cs) .views s));
+    struck-answers = λ s. rw (answers-of cs, answers-of (callsNaming s cs)) (strike-answers P s cs [] [] tt tt refl);
+    struck-rights = λ s o r. ap (λ w. holds P w o r) (same s ∙ strike-view P s cs [] [] tt tt refl ∙ sym (agree (callsNaming s cs) .views s));
   }

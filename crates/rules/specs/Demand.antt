@@ -9,12 +9,12 @@ use Rattle.plant.specs.Plant.{namesRight, groupOf}
 use Rattle.choice.specs.Choice.{unset}
 use Rattle.rules.specs.Rules.{Call, gate, holds}
 use Rattle.rules.specs.Record.{fresh, viewOf, intact, reply, replies, final}
-use Rattle.rules.specs.History.{dues, history, own, mine}
+use Rattle.rules.specs.History.{historyAnswers, history, callsNaming, skidAnswers}
 use Rattle.rules.specs.Rights.{Runs, Gives}
 
 pub record Demand3 (P : Plant) (cs : List Call) : Type 0 where
   -- Every answer is the history's, which is never 20, and the record that is left passes test 20.
-  pub answers : replies (fresh P) cs ≡ dues P [] cs
+  pub answers : replies (fresh P) cs ≡ historyAnswers P [] cs
   pub never-20 : intact P (final (fresh P) cs) ≡ true
   -- A right is held, and a gate call for it would return 0, exactly where the history gives it.
   pub held : (s o r : ℕ) → o < P .tanks → r < 3 → holds P (viewOf P (final (fresh P) cs) s) o r ≡ true ↔ Gives P (history P [] cs) s o r
@@ -28,5 +28,5 @@ pub record Demand3 (P : Plant) (cs : List Call) : Type 0 where
       × ((o′ : ℕ) → o′ < P .tanks → groupOf P o′ ≡ g → holds P (viewOf P (final (fresh P) cs) s) o′ r ≡ true → o′ ≡ o)
   pub nothing : (s o r : ℕ) → (viewOf P (final (fresh P) cs) s) .running ≡ unset → holds P (viewOf P (final (fresh P) cs) s) o r ≡ false
   -- Striking out every call that names another skid leaves this skid's answers, in their order, and its rights.
-  pub struck-answers : (s : ℕ) → mine s cs (replies (fresh P) cs) ≡ replies (fresh P) (own s cs)
-  pub struck-rights : (s o r : ℕ) → holds P (viewOf P (final (fresh P) cs) s) o r ≡ holds P (viewOf P (final (fresh P) (own s cs)) s) o r
+  pub struck-answers : (s : ℕ) → skidAnswers s cs (replies (fresh P) cs) ≡ replies (fresh P) (callsNaming s cs)
+  pub struck-rights : (s o r : ℕ) → holds P (viewOf P (final (fresh P) cs) s) o r ≡ holds P (viewOf P (final (fresh P) (callsNaming s cs)) s) o r

@@ -8,62 +8,62 @@ use Rattle.choice.specs.Choice.{unset}
 use Rattle.rules.specs.Rules.{Call, set, start, stop, gate, unknown, skidOf, View, refusal, answer, pickFor}
 
 -- the level of skid s, task t and requirement d: that of the last accepted set of them, and unset before
-unfoldable pub levelIn : List Call → ℕ → ℕ → ℕ → ℕ
-levelIn [] s t d = unset
-levelIn (set s′ t′ d′ v ∷ a) s t d = cond (eqb s s′ && (eqb t t′ && eqb d d′)) v (levelIn a s t d)
-levelIn (start s′ t′ ∷ a) s t d = levelIn a s t d
-levelIn (stop s′ ∷ a) s t d = levelIn a s t d
-levelIn (gate s′ o r ∷ a) s t d = levelIn a s t d
-levelIn (unknown ∷ a) s t d = levelIn a s t d
+unfoldable pub historyLevel : List Call → ℕ → ℕ → ℕ → ℕ
+historyLevel [] s t d = unset
+historyLevel (set s′ t′ d′ v ∷ a) s t d = cond (eqb s s′ && (eqb t t′ && eqb d d′)) v (historyLevel a s t d)
+historyLevel (start s′ t′ ∷ a) s t d = historyLevel a s t d
+historyLevel (stop s′ ∷ a) s t d = historyLevel a s t d
+historyLevel (gate s′ o r ∷ a) s t d = historyLevel a s t d
+historyLevel (unknown ∷ a) s t d = historyLevel a s t d
 
 -- what stands of skid s's last accepted start, if no accepted stop of it came later: the task, and the calls before that start
-pub data Started : Type 0 where
-  idle : Started
-  since : ℕ → List Call → Started
+pub data LastStart : Type 0 where
+  idle : LastStart
+  since : ℕ → List Call → LastStart
 
-unfoldable pub startIn : List Call → ℕ → Started
-startIn [] s = idle
-startIn (set s′ t d v ∷ a) s = startIn a s
-startIn (start s′ t ∷ a) s = cond (eqb s s′) (since t a) (startIn a s)
-startIn (stop s′ ∷ a) s = cond (eqb s s′) idle (startIn a s)
-startIn (gate s′ o r ∷ a) s = startIn a s
-startIn (unknown ∷ a) s = startIn a s
+unfoldable pub lastStart : List Call → ℕ → LastStart
+lastStart [] s = idle
+lastStart (set s′ t d v ∷ a) s = lastStart a s
+lastStart (start s′ t ∷ a) s = cond (eqb s s′) (since t a) (lastStart a s)
+lastStart (stop s′ ∷ a) s = cond (eqb s s′) idle (lastStart a s)
+lastStart (gate s′ o r ∷ a) s = lastStart a s
+lastStart (unknown ∷ a) s = lastStart a s
 
-abbrev pub taskOf : Started → ℕ
-taskOf idle = unset
-taskOf (since t a) = t
+abbrev pub startedTask : LastStart → ℕ
+startedTask idle = unset
+startedTask (since t a) = t
 
 module _ (P : Plant) where
-  abbrev pub tankOf : ℕ → Started → ℕ → ℕ
-  tankOf s idle g = unset
-  tankOf s (since t a) g = pickFor P t (levelIn a s t) g
+  abbrev pub startedTank : ℕ → LastStart → ℕ → ℕ
+  startedTank s idle g = unset
+  startedTank s (since t a) g = pickFor P t (historyLevel a s t) g
 
   -- what the history says of skid s
-  unfoldable pub past : List Call → ℕ → View
-  past a s = record { level = levelIn a s; running = taskOf (startIn a s); chosen = tankOf s (startIn a s) }
+  unfoldable pub historyView : List Call → ℕ → View
+  historyView a s = record { level = historyLevel a s; running = startedTask (lastStart a s); chosen = startedTank s (lastStart a s) }
 
   -- the history with one call more
-  unfoldable pub note : List Call → Call → List Call
-  note a c = cond (eqb (refusal P (past a) c) 0) (c ∷ a) a
+  unfoldable pub withCall : List Call → Call → List Call
+  withCall a c = cond (eqb (refusal P (historyView a) c) 0) (c ∷ a) a
 
-  unfoldable pub due : List Call → Call → ℕ
-  due a c = answer P (past a) c
+  unfoldable pub historyAnswer : List Call → Call → ℕ
+  historyAnswer a c = answer P (historyView a) c
 
   -- the answers that the history gives, and the history of a list that follows on one
-  unfoldable pub dues : List Call → List Call → List ℕ
-  dues a [] = []
-  dues a (c ∷ cs) = due a c ∷ dues (note a c) cs
+  unfoldable pub historyAnswers : List Call → List Call → List ℕ
+  historyAnswers a [] = []
+  historyAnswers a (c ∷ cs) = historyAnswer a c ∷ historyAnswers (withCall a c) cs
 
   unfoldable pub history : List Call → List Call → List Call
   history a [] = a
-  history a (c ∷ cs) = history (note a c) cs
+  history a (c ∷ cs) = history (withCall a c) cs
 
 -- the calls of a list that name skid s, and of the answers to a list those to such calls
-unfoldable pub own : ℕ → List Call → List Call
-own s [] = []
-own s (c ∷ cs) = cond (eqb (skidOf c) s) (c ∷ own s cs) (own s cs)
+unfoldable pub callsNaming : ℕ → List Call → List Call
+callsNaming s [] = []
+callsNaming s (c ∷ cs) = cond (eqb (skidOf c) s) (c ∷ callsNaming s cs) (callsNaming s cs)
 
-unfoldable pub mine : ℕ → List Call → List ℕ → List ℕ
-mine s [] xs = []
-mine s (c ∷ cs) [] = []
-mine s (c ∷ cs) (x ∷ xs) = cond (eqb (skidOf c) s) (x ∷ mine s cs xs) (mine s cs xs)
+unfoldable pub skidAnswers : ℕ → List Call → List ℕ → List ℕ
+skidAnswers s [] xs = []
+skidAnswers s (c ∷ cs) [] = []
+skidAnswers s (c ∷ cs) (x ∷ xs) = cond (eqb (skidOf c) s) (x ∷ skidAnswers s cs xs) (skidAnswers s cs xs)

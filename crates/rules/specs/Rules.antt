@@ -39,6 +39,7 @@ pub record View : Type 0 where
   pub chosen : ℕ → ℕ
 
 module _ (P : Plant) where
+  -- `wish d` is the level that is asked for requirement d.
   -- 27: a needed group's requirement is unset. A group is needed where the task names any right on it.
   unfoldable pub blankAt : ℕ → (ℕ → ℕ) → ℕ → Bool
   blankAt t wish g = needs P t g && eqb (wish (requirementOf P g)) unset
@@ -76,15 +77,15 @@ module _ (P : Plant) where
   refusal vs c = first (conditions vs c)
 
   -- the answer to a call that is accepted
-  unfoldable pub granted : View → Call → ℕ
-  granted w (set s t d v) = 0
-  granted w (start s t) = 0
-  granted w (stop s) = 0
-  granted w (gate s o r) = cond (holds w o r) 0 33
-  granted w unknown = 0
+  unfoldable pub acceptedAnswer : View → Call → ℕ
+  acceptedAnswer w (set s t d v) = 0
+  acceptedAnswer w (start s t) = 0
+  acceptedAnswer w (stop s) = 0
+  acceptedAnswer w (gate s o r) = cond (holds w o r) 0 33
+  acceptedAnswer w unknown = 0
 
   unfoldable pub answer : (ℕ → View) → Call → ℕ
-  answer vs c = cond (eqb (refusal vs c) 0) (granted (vs (skidOf c)) c) (refusal vs c)
+  answer vs c = cond (eqb (refusal vs c) 0) (acceptedAnswer (vs (skidOf c)) c) (refusal vs c)
 
   -- the tank chosen from group g by a start of task t under the wish, or 255 where the task has no right there
   unfoldable pub pickFor : ℕ → (ℕ → ℕ) → ℕ → ℕ

@@ -84,9 +84,9 @@ pub fn runs_ok<'a>(p: Plant, running: &'a [u8; 8], chosen: &'a [u8; 64]) -> bool
     let groups = p.groups as usize;
     for s in 0..n {
         if !skid_runs_ok(
-            &p.rights,
-            &p.group,
-            &p.may,
+            &p.task_rights,
+            &p.tank_group,
+            &p.skid_tasks,
             chosen,
             p.tasks,
             groups,

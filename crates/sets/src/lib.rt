@@ -28,7 +28,7 @@ pub fn has(x: u16, i: usize) -> bool
     (x >> i) % 2 == 1
 }
 
-// The set x joined to y, where level j is in the set `these`.
+// The union of y and x where level j is in the set `these`, and else y.
 pub fn with_set(y: u16, these: u16, j: usize, x: u16) -> u16
     requires { ⌜ j < 16 ⌝ }
     ensures { λ r. ⌜ r ≡ cond (bit these j) (bitOr y x) y ⌝ }

@@ -5,13 +5,13 @@ ghost use Prim.Native.Nat.{_<_, _≤_};
 ghost use lib.ListN.{getD};
 ghost use Rattle.base.specs.Below.{allBelow};
 ghost use Rattle.plant.specs.Checks.{entryBelow};
-ghost use Rattle.test20.specs.Raw.{levelsFrom, levelsByRequirement, Free, levelIn, rowIn, skidLevelsIn};
+ghost use Rattle.test20.specs.Raw.{levelsOfRequirement, levelsByRequirement, Free, levelIn, rowLevelIn, skidLevelsIn};
 use sets::wide;
 
 // How many levels a requirement has.
 fn levels_at<'a>(sizes: &'a [u8; 8], lattice: &'a [u8; 8], d: usize) -> u8
     requires { ⌜ (d < 8) × (getD (now lattice) d 0 < 8) ⌝ }
-    ensures { λ r. ⌜ r ≡ levelsFrom (now (sizes .entry)) (now (lattice .entry)) d ⌝ }
+    ensures { λ r. ⌜ r ≡ levelsOfRequirement (now (sizes .entry)) (now (lattice .entry)) d ⌝ }
 {
     let l = wide(lattice[d]);
     sizes[l]
@@ -44,7 +44,7 @@ fn level_ok(v: u8, n: u8) -> bool
 // The levels of one skid and task stand in one row. It looks at all eight and never leaves early, so that the loop has a fixed length.
 fn row_ok<'a>(levels: &'a [u8; 1024], most: &'a [u8; 8], requirements: usize, row: usize) -> bool
     requires { ⌜ (requirements ≤ 8) × ((row < 128) × Free (now most) requirements) ⌝ }
-    ensures { λ r. ⌜ r ≡ allBelow (rowIn (now (levels .entry)) (now (most .entry)) row) requirements ⌝ }
+    ensures { λ r. ⌜ r ≡ allBelow (rowLevelIn (now (levels .entry)) (now (most .entry)) row) requirements ⌝ }
 {
     let mut ok = true;
     let mut d: usize = 0;

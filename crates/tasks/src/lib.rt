@@ -4,7 +4,7 @@ ghost use Prim.Native.Nat.{_<_, _≤_};
 ghost use lib.ListN.{getD};
 ghost use Rattle.base.specs.Below.{allBelow};
 ghost use Rattle.base.specs.Bits.{noneFrom};
-ghost use Rattle.plant.specs.Checks.{entryClear, rightIn, taskRightsIn, taskIn};
+ghost use Rattle.plant.specs.Checks.{entryClear, rightFitsIn, taskRightsFitIn, taskFitsIn};
 use plant::Right;
 
 // No bit of x at or past n. A shift by 16 wants the wider number.
@@ -16,7 +16,7 @@ fn none_from(x: u16, n: u8) -> bool
 }
 
 fn right_fits(x: u8, g: usize, groups: usize) -> bool
-    ensures { λ r. ⌜ r ≡ rightIn groups g x ⌝ }
+    ensures { λ r. ⌜ r ≡ rightFitsIn groups g x ⌝ }
 {
     if !none_from(x as u16, Right::COUNT) {
         return false;
@@ -29,7 +29,7 @@ fn right_fits(x: u8, g: usize, groups: usize) -> bool
 
 fn rights_fit(rights: &[u8; 128], groups: usize, t: usize) -> bool
     requires { ⌜ t < 16 ⌝ }
-    ensures { λ r. ⌜ r ≡ allBelow (taskRightsIn (now (rights .entry)) groups t) 8 ⌝ }
+    ensures { λ r. ⌜ r ≡ allBelow (taskRightsFitIn (now (rights .entry)) groups t) 8 ⌝ }
 {
     for g in 0..8 {
         if !right_fits(rights[t * 8 + g], g, groups) {
@@ -41,7 +41,7 @@ fn rights_fit(rights: &[u8; 128], groups: usize, t: usize) -> bool
 
 fn task_fits(names: u8, rights: &[u8; 128], requirements: u8, groups: usize, t: usize) -> bool
     requires { ⌜ (requirements ≤ 16) × (t < 16) ⌝ }
-    ensures { λ r. ⌜ r ≡ taskIn names (now (rights .entry)) requirements groups t ⌝ }
+    ensures { λ r. ⌜ r ≡ taskFitsIn names (now (rights .entry)) requirements groups t ⌝ }
 {
     none_from(names as u16, requirements) && rights_fit(rights, groups, t)
 }
@@ -54,7 +54,7 @@ pub fn tasks_fit<'a>(
     tasks: u8,
 ) -> bool
     requires { ⌜ (requirements ≤ 16) × (tasks ≤ 16) ⌝ }
-    ensures { λ r. ⌜ r ≡ allBelow (λ t. taskIn (getD (now (names .entry)) t 0) (now (rights .entry)) requirements groups t) tasks ⌝ }
+    ensures { λ r. ⌜ r ≡ allBelow (λ t. taskFitsIn (getD (now (names .entry)) t 0) (now (rights .entry)) requirements groups t) tasks ⌝ }
 {
     let n = tasks as usize;
     for t in 0..n {

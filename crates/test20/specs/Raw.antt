@@ -14,14 +14,14 @@ use Rattle.choice.specs.Choice.{unset}
 
 -- How many levels requirement d has, and the list of these. Past the count it has 255, which every level passes, so that a row is tested to
 -- its end.
-abbrev pub levelsFrom : List ℕ → List ℕ → ℕ → ℕ
-levelsFrom sizes lattice d = getD sizes (getD lattice d 0) 0
+abbrev pub levelsOfRequirement : List ℕ → List ℕ → ℕ → ℕ
+levelsOfRequirement sizes lattice d = getD sizes (getD lattice d 0) 0
 
 abbrev pub levelsByRequirement : List ℕ → List ℕ → ℕ → List ℕ
-levelsByRequirement sizes lattice requirements = fill (levelsFrom sizes lattice) (replicate 8 255) requirements
+levelsByRequirement sizes lattice requirements = fill (levelsOfRequirement sizes lattice) (replicate 8 255) requirements
 
 abbrev pub most : Plant → List ℕ
-most p = levelsByRequirement (p .sizes) (p .lattice) (p .requirements)
+most p = levelsByRequirement (p .«lattice_sizes») (p .«requirement_lattice») (p .requirements)
 
 -- xs has 255 past the requirements
 abbrev pub Free : List ℕ → ℕ → Type 0
@@ -33,11 +33,11 @@ levelIn v n = eqb v unset || ltb v n
 
 -- A level passes, at its requirement's place in the row of a skid and a task; all of such a row; all rows of a skid. xs has the number of
 -- levels of each requirement.
-abbrev pub rowIn : List ℕ → List ℕ → ℕ → ℕ → Bool
-rowIn levels xs row d = levelIn (getD levels (row * 8 + d) 0) (getD xs d 0)
+abbrev pub rowLevelIn : List ℕ → List ℕ → ℕ → ℕ → Bool
+rowLevelIn levels xs row d = levelIn (getD levels (row * 8 + d) 0) (getD xs d 0)
 
 abbrev pub taskLevelsIn : List ℕ → List ℕ → ℕ → ℕ → ℕ → Bool
-taskLevelsIn levels xs requirements s t = allBelow (rowIn levels xs (s * 16 + t)) requirements
+taskLevelsIn levels xs requirements s t = allBelow (rowLevelIn levels xs (s * 16 + t)) requirements
 
 abbrev pub skidLevelsIn : List ℕ → List ℕ → ℕ → ℕ → ℕ → Bool
 skidLevelsIn levels xs requirements tasks s = allBelow (taskLevelsIn levels xs requirements s) tasks
@@ -59,7 +59,7 @@ runsIn rights group may chosen tasks groups tanks t s =
     eqb t unset || (taskIn may tasks t s && allBelow (chosenIn rights group chosen tanks t s) groups)
 
 abbrev pub skidRunsIn : Plant → List ℕ → List ℕ → ℕ → Bool
-skidRunsIn p running chosen s = runsIn (p .rights) (p .group) (p .may) chosen (p .tasks) (p .groups) (p .tanks) (getD running s 0) s
+skidRunsIn p running chosen s = runsIn (p .«task_rights») (p .«tank_group») (p .«skid_tasks») chosen (p .tasks) (p .groups) (p .tanks) (getD running s 0) s
 
 -- the three changing parts, on every skid
 abbrev pub partsIn : Plant → List ℕ → List ℕ → List ℕ → Bool

@@ -44,10 +44,10 @@ pub fn turn<'a>(
         (now rights) (now may)) (now levels) (now running) (now chosen) ≡ m ⌝ }
     requires { λ m. ⌜ intact (m .plant) m ≡ true ⌝ }
     requires { λ m. ⌜ Tables (m .plant) (now made) (now needs) ⌝ }
-    requires { λ m. ⌜ Granted (m .plant .rights) (m .running) (m .plant .skids) (now granted) ⌝ }
+    requires { λ m. ⌜ Granted (m .plant .«task_rights») (m .running) (m .plant .skids) (now granted) ⌝ }
     ensures { λ m r. ⌜ Does m (callBy kind a b c d) r (recordOf (m .plant) (now (levels .exit)) (now (running .exit)) (now (chosen .exit))) ⌝ }
     ensures { λ m r. ⌜ Tables (m .plant) (now (made .exit)) (now (needs .exit)) ⌝ }
-    ensures { λ m r. ⌜ Granted (m .plant .rights) (now (running .exit)) (m .plant .skids) (now (granted .exit)) ⌝ }
+    ensures { λ m r. ⌜ Granted (m .plant .«task_rights») (now (running .exit)) (m .plant .skids) (now (granted .exit)) ⌝ }
 {
     if 2 < kind {
         if kind == 3 {

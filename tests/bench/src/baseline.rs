@@ -87,5 +87,5 @@ fn first_byte(high_bits: u64) -> (usize, u64) {
 fn rights_of(plant: &Plant, task: usize) -> u64 {
     debug_assert!(task < 16);
     // A task under the count is under 16.
-    unsafe { plant.rights.as_ptr().add(task * 8).cast::<u64>().read_unaligned() }
+    unsafe { plant.task_rights.as_ptr().add(task * 8).cast::<u64>().read_unaligned() }
 }

@@ -129,7 +129,8 @@ pub fn console_cases(plant: &str, file: &[u8]) -> [Case; 3] {
     permit_monitor::queue(&mut record, &past, &mut vec![0; past.len()]);
     let (skid, tank, right) = record.held()[0];
     let task = record.running[usize::from(skid)];
-    let requirement = record.plant.requirement[usize::from(record.plant.group[usize::from(tank)])];
+    let requirement =
+        record.plant.group_requirement[usize::from(record.plant.tank_group[usize::from(tank)])];
     let mut idle = record;
     make_idle(&mut idle, skid);
     let set = [SET, skid, task, requirement, 0];

@@ -159,8 +159,8 @@ fn opened(plant: Vec<u8>) -> Input {
 /// The fresh monitor of one lattice, and then another lattice in its place.
 fn with_lattice(lattice: &Lattice) -> Record {
     let mut record = open(&one_lattice(lattice_record(&chain(1)))).1;
-    record.plant.sizes[0] = lattice.n as u8;
-    record.plant.sets[..16].copy_from_slice(&lattice.sets);
+    record.plant.lattice_sizes[0] = lattice.n as u8;
+    record.plant.lattice_sets[..16].copy_from_slice(&lattice.sets);
     record
 }
 

@@ -180,11 +180,11 @@ fn read_plant(file: &[u8]) -> Plant {
 fn read_record(plant: &mut Plant, kind: usize, item: usize, bytes: &[u8]) {
     match kind {
         LATTICES => read_lattice(plant, item, bytes),
-        REQUIREMENTS => plant.lattice[item] = bytes[0],
-        GROUPS => plant.requirement[item] = bytes[0],
+        REQUIREMENTS => plant.requirement_lattice[item] = bytes[0],
+        GROUPS => plant.group_requirement[item] = bytes[0],
         TANKS => read_tank(plant, item, bytes),
         TASKS => read_task(plant, item, bytes),
-        SKIDS => plant.may[item] = two_bytes(bytes, 0),
+        SKIDS => plant.skid_tasks[item] = two_bytes(bytes, 0),
         _ => unreachable!("there are six sections"),
     }
 }
@@ -192,21 +192,21 @@ fn read_record(plant: &mut Plant, kind: usize, item: usize, bytes: &[u8]) {
 /// "byte 0 is the number n of levels [...]; byte 1 is zero; then sixteen
 /// two-byte sets".
 fn read_lattice(plant: &mut Plant, item: usize, bytes: &[u8]) {
-    plant.sizes[item] = bytes[0];
+    plant.lattice_sizes[item] = bytes[0];
     for i in 0..16 {
-        plant.sets[item * 16 + i] = two_bytes(bytes, 2 + 2 * i);
+        plant.lattice_sets[item * 16 + i] = two_bytes(bytes, 2 + 2 * i);
     }
 }
 
 /// "its group, then its level".
 fn read_tank(plant: &mut Plant, item: usize, bytes: &[u8]) {
-    plant.group[item] = bytes[0];
-    plant.level[item] = bytes[1];
+    plant.tank_group[item] = bytes[0];
+    plant.tank_level[item] = bytes[1];
 }
 
 /// "a byte whose bit d names requirement d; a zero byte; eight bytes, byte g
 /// having bit r set where the task names right r on group g".
 fn read_task(plant: &mut Plant, item: usize, bytes: &[u8]) {
-    plant.names[item] = bytes[0];
-    plant.rights[item * 8..item * 8 + 8].copy_from_slice(&bytes[2..10]);
+    plant.task_requirements[item] = bytes[0];
+    plant.task_rights[item * 8..item * 8 + 8].copy_from_slice(&bytes[2..10]);
 }

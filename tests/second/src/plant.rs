@@ -30,23 +30,23 @@ pub struct Plant {
     pub tasks: u8,
     pub skids: u8,
     /// The number n of levels of each lattice.
-    pub sizes: [u8; 8],
+    pub lattice_sizes: [u8; 8],
     /// Set i of lattice l at l * 16 + i.
-    pub sets: [u16; 128],
+    pub lattice_sets: [u16; 128],
     /// The lattice of each requirement.
-    pub lattice: [u8; 8],
+    pub requirement_lattice: [u8; 8],
     /// The requirement of each group.
-    pub requirement: [u8; 8],
+    pub group_requirement: [u8; 8],
     /// The group of each tank.
-    pub group: [u8; 64],
+    pub tank_group: [u8; 64],
     /// The level of each tank.
-    pub level: [u8; 64],
+    pub tank_level: [u8; 64],
     /// The requirements that each task names, bit d for requirement d.
-    pub names: [u8; 16],
+    pub task_requirements: [u8; 16],
     /// The rights that task t names on group g at t * 8 + g, bit r for right r.
-    pub rights: [u8; 128],
+    pub task_rights: [u8; 128],
     /// The tasks that each skid may run, bit t for task t.
-    pub may: [u16; 8],
+    pub skid_tasks: [u16; 8],
 }
 
 /// Reading a plant.
@@ -60,15 +60,15 @@ impl Plant {
             tanks: 0,
             tasks: 0,
             skids: 0,
-            sizes: [0; 8],
-            sets: [0; 128],
-            lattice: [0; 8],
-            requirement: [0; 8],
-            group: [0; 64],
-            level: [0; 64],
-            names: [0; 16],
-            rights: [0; 128],
-            may: [0; 8],
+            lattice_sizes: [0; 8],
+            lattice_sets: [0; 128],
+            requirement_lattice: [0; 8],
+            group_requirement: [0; 8],
+            tank_group: [0; 64],
+            tank_level: [0; 64],
+            task_requirements: [0; 16],
+            task_rights: [0; 128],
+            skid_tasks: [0; 8],
         }
     }
 
@@ -91,13 +91,13 @@ impl Plant {
     /// Lattice l, taken out of the plant.
     pub fn lattice_numbered(&self, l: usize) -> Lattice {
         let mut sets = [0; 16];
-        sets.copy_from_slice(&self.sets[l * 16..l * 16 + 16]);
-        Lattice { n: usize::from(self.sizes[l]), sets }
+        sets.copy_from_slice(&self.lattice_sets[l * 16..l * 16 + 16]);
+        Lattice { n: usize::from(self.lattice_sizes[l]), sets }
     }
 
     /// The lattice of a requirement.
     pub fn lattice_of_requirement(&self, requirement: usize) -> Lattice {
-        self.lattice_numbered(usize::from(self.lattice[requirement]))
+        self.lattice_numbered(usize::from(self.requirement_lattice[requirement]))
     }
 
     /// "the lattice of that group's requirement".
@@ -107,17 +107,17 @@ impl Plant {
 
     /// The requirement of a group.
     pub fn requirement_of(&self, group: usize) -> usize {
-        usize::from(self.requirement[group])
+        usize::from(self.group_requirement[group])
     }
 
     /// The group of a tank.
     pub fn group_of(&self, tank: usize) -> usize {
-        usize::from(self.group[tank])
+        usize::from(self.tank_group[tank])
     }
 
     /// The level of a tank.
     pub fn level_of(&self, tank: usize) -> usize {
-        usize::from(self.level[tank])
+        usize::from(self.tank_level[tank])
     }
 
     /// The tanks of a group, in rising order. "A group may have no tank."
@@ -127,17 +127,17 @@ impl Plant {
 
     /// "a byte whose bit d names requirement d".
     pub fn names_requirement(&self, task: usize, requirement: usize) -> bool {
-        (self.names[task] >> requirement) & 1 == 1
+        (self.task_requirements[task] >> requirement) & 1 == 1
     }
 
     /// "byte g having bit r set where the task names right r on group g".
     pub fn names_right(&self, task: usize, group: usize, right: usize) -> bool {
-        (self.rights[task * 8 + group] >> right) & 1 == 1
+        (self.task_rights[task * 8 + group] >> right) & 1 == 1
     }
 
     /// Whether the task names any right on the group.
     pub fn needs(&self, task: usize, group: usize) -> bool {
-        self.rights[task * 8 + group] != 0
+        self.task_rights[task * 8 + group] != 0
     }
 
     /// The groups "on which the task names a right".
@@ -147,7 +147,7 @@ impl Plant {
 
     /// "bit t set where it may run task t".
     pub fn may_run(&self, skid: usize, task: usize) -> bool {
-        (self.may[skid] >> task) & 1 == 1
+        (self.skid_tasks[skid] >> task) & 1 == 1
     }
 }
 
@@ -210,9 +210,9 @@ impl Plant {
         let past = |numbers: &[u8], owner: usize, named: usize| {
             (0..self.count(owner)).any(|i| !self.has(named, usize::from(numbers[i])))
         };
-        past(&self.lattice, REQUIREMENTS, LATTICES)
-            || past(&self.requirement, GROUPS, REQUIREMENTS)
-            || past(&self.group, TANKS, GROUPS)
+        past(&self.requirement_lattice, REQUIREMENTS, LATTICES)
+            || past(&self.group_requirement, GROUPS, REQUIREMENTS)
+            || past(&self.tank_group, TANKS, GROUPS)
     }
 
     /// A bit of a task that names no requirement, or of a skid that names no task.

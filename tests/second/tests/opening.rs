@@ -28,11 +28,11 @@ fn the_sessions_plant_is_accepted_and_fresh() {
     assert!(record.running.iter().all(|&task| task == 255));
     assert!(record.chosen.iter().all(|&tank| tank == 255));
     assert_eq!(record.plant.counts(), [2, 2, 2, 4, 2, 2]);
-    assert_eq!(record.plant.sizes, [3, 4, 0, 0, 0, 0, 0, 0]);
-    assert_eq!(record.plant.sets[..4], [7, 6, 4, 0]);
-    assert_eq!(record.plant.sets[16..21], [15, 10, 12, 8, 0]);
-    assert_eq!(record.plant.rights[..10], [1, 5, 0, 0, 0, 0, 0, 0, 2, 0]);
-    assert_eq!(record.plant.may[..3], [3, 2, 0]);
+    assert_eq!(record.plant.lattice_sizes, [3, 4, 0, 0, 0, 0, 0, 0]);
+    assert_eq!(record.plant.lattice_sets[..4], [7, 6, 4, 0]);
+    assert_eq!(record.plant.lattice_sets[16..21], [15, 10, 12, 8, 0]);
+    assert_eq!(record.plant.task_rights[..10], [1, 5, 0, 0, 0, 0, 0, 0, 2, 0]);
+    assert_eq!(record.plant.skid_tasks[..3], [3, 2, 0]);
 }
 
 #[test]

@@ -5,14 +5,14 @@ use native.Mathlib.Omega.{arith}
 use lib.ListN.{getD}
 use Rattle.base.specs.Fill.{fill}
 use Rattle.base.proofs.Filled.{filled}
-use Rattle.plant.specs.Checks.{levelsFrom}
+use Rattle.plant.specs.Checks.{levelsOfGroup}
 use Rattle.plant.proofs.Links.{entry-at}
 use borrow.Author.Needs.{needs}
 use Rattle.entries.proofs.levels_by_group.Statement.{statement}
 use Rattle.entries.proofs.levels_by_group.Tie as tie
 
 abbrev Inv-loop : tie.InvT-loop
-Inv-loop sizes lattice requirement lattices requirements groups levels₀ n g₀ levels g = (g ≤ n) × (levels ≡ fill (levelsFrom sizes lattice requirement) levels₀ g)
+Inv-loop sizes lattice requirement lattices requirements groups levels₀ n g₀ levels g = (g ≤ n) × (levels ≡ fill (levelsOfGroup sizes lattice requirement) levels₀ g)
 
 abbrev μ-loop : tie.MeasureT-loop
 μ-loop sizes lattice requirement lattices requirements groups levels₀ n g₀ levels g = n - g

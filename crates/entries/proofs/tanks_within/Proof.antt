@@ -4,14 +4,14 @@ use mathlib.Core.Path.{_≡_}
 use mathlib.Core.Bool.{true}
 use Rattle.base.specs.Below.{allBelow}
 use Rattle.base.proofs.Scan.{scan}
-use Rattle.plant.specs.Checks.{tankIn}
+use Rattle.plant.specs.Checks.{tankFitsIn}
 use lib.ListN.{getD}
 use borrow.Author.Needs.{needs}
 use Rattle.entries.proofs.tanks_within.Statement.{statement}
 use Rattle.entries.proofs.tanks_within.Tie as tie
 
 abbrev Inv-loop : tie.InvT-loop
-Inv-loop group level groups tanks levels n o₀ o = (o ≤ n) × (allBelow (λ (x : ℕ). tankIn levels groups (getD group x 0) (getD level x 0)) o ≡ true)
+Inv-loop group level groups tanks levels n o₀ o = (o ≤ n) × (allBelow (λ (x : ℕ). tankFitsIn levels groups (getD group x 0) (getD level x 0)) o ≡ true)
 
 abbrev μ-loop : tie.MeasureT-loop
 μ-loop group level groups tanks levels n o₀ o = n - o

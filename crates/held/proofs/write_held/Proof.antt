@@ -5,7 +5,7 @@ use mathlib.Core.List.{List, _∷_}
 use native.Mathlib.Omega.{arith}
 use lib.ListN.{length, set}
 use Rattle.base.specs.Overlay.{overlay}
-use Rattle.listing.specs.Work.{skidsIn}
+use Rattle.listing.specs.Work.{skidsBytesIn}
 use Rattle.held.proofs.Put.{overlay-front}
 use Rattle.listing.proofs.Bound.{list-short}
 use borrow.Author.Needs.{needs}
@@ -28,7 +28,7 @@ returns c =
     let s = c .before .before .before .before .before .before in
     let w = c .before .before .before .write-skids in
     let out : List ℕ = s .args .out .now in
-    let ws : List ℕ = skidsIn (s .args .group .now) (s .args .rights .now) (s .args .running .now) (s .args .chosen .now) (s .args .skids) (s .args .tanks) in
+    let ws : List ℕ = skidsBytesIn (s .args .group .now) (s .args .rights .now) (s .args .running .now) (s .args .chosen .now) (s .args .skids) (s .args .tanks) in
     let n : w .result - 1 ≡ length ws = omega (arith, w .ensures .place) in
     let k : c .rights-in .result ≡ length ws / 3 = c .rights-in .ensures ∙ ap (λ (x : ℕ). x / 3) n in
     ap (λ (l : List ℕ). set l 0 (c .rights-in .result)) (w .ensures .bytes) ∙ overlay-front out (c .rights-in .result) ws (omega (arith, s .pre .1))

@@ -3,13 +3,13 @@ use Prim.Native.Nat.{_≤_, _-_}
 use Rattle.base.specs.Collect.{collect}
 use Rattle.base.specs.Overlay.{Wrote}
 use Rattle.base.proofs.Collected.{written, wrote-room, wrote-same}
-use Rattle.listing.specs.Work.{tankIn}
+use Rattle.listing.specs.Work.{tankBytesIn}
 use borrow.Author.Needs.{needs}
 use Rattle.held.proofs.write_skid.Statement.{statement}
 use Rattle.held.proofs.write_skid.Tie as tie
 
 abbrev Inv-loop : tie.InvT-loop
-Inv-loop group rights running chosen skids tanks s out₀ at end₀ o₀ out end o = (o ≤ tanks) × Wrote (collect (tankIn group rights running chosen s) o) out₀ at out end
+Inv-loop group rights running chosen skids tanks s out₀ at end₀ o₀ out end o = (o ≤ tanks) × Wrote (collect (tankBytesIn group rights running chosen s) o) out₀ at out end
 
 abbrev μ-loop : tie.MeasureT-loop
 μ-loop group rights running chosen skids tanks s out₀ at end₀ o₀ out end o = tanks - o

@@ -3,13 +3,13 @@ use Prim.Native.Nat.{_≤_, _-_}
 use Rattle.base.specs.Collect.{collect}
 use Rattle.base.specs.Overlay.{Wrote}
 use Rattle.base.proofs.Collected.{written, wrote-room, wrote-same}
-use Rattle.listing.specs.Work.{skidIn}
+use Rattle.listing.specs.Work.{skidBytesIn}
 use borrow.Author.Needs.{needs}
 use Rattle.held.proofs.write_skids.Statement.{statement}
 use Rattle.held.proofs.write_skids.Tie as tie
 
 abbrev Inv-loop : tie.InvT-loop
-Inv-loop group rights running chosen skids tanks out₀ at end₀ s₀ out end s = (s ≤ skids) × Wrote (collect (skidIn group rights running chosen tanks) s) out₀ at out end
+Inv-loop group rights running chosen skids tanks out₀ at end₀ s₀ out end s = (s ≤ skids) × Wrote (collect (skidBytesIn group rights running chosen tanks) s) out₀ at out end
 
 abbrev μ-loop : tie.MeasureT-loop
 μ-loop group rights running chosen skids tanks out₀ at end₀ s₀ out end s = skids - s

@@ -5,15 +5,15 @@ use lib.ListN.{getD}
 use Rattle.base.specs.Collect.{collect}
 use Rattle.base.specs.Overlay.{Wrote}
 use Rattle.base.proofs.Collected.{written, wrote-room, wrote-more, wrote-same}
-use Rattle.plant.specs.Right.{rightNumbers}
-use Rattle.listing.specs.Work.{rightIn}
+use Rattle.plant.specs.Right.{allRights}
+use Rattle.listing.specs.Work.{rightBytesIn}
 use borrow.Author.Needs.{needs}
 use Rattle.held.proofs.write_tank.Statement.{statement}
 use Rattle.held.proofs.write_tank.Tie as tie
 
 abbrev Inv-loop : tie.InvT-loop
 Inv-loop group rights running chosen skids tanks s o out₀ at numbers end₀ i₀ out end i =
-    (i ≤ 3) × Wrote (collect (λ (k : ℕ). rightIn group rights running chosen s o (getD rightNumbers k 0)) i) out₀ at out end
+    (i ≤ 3) × Wrote (collect (λ (k : ℕ). rightBytesIn group rights running chosen s o (getD allRights k 0)) i) out₀ at out end
 
 abbrev μ-loop : tie.MeasureT-loop
 μ-loop group rights running chosen skids tanks s o out₀ at numbers end₀ i₀ out end i = 3 - i
@@ -22,14 +22,14 @@ write-right-requires : tie.Need-write-right-requires Inv-loop μ-loop
 write-right-requires c κs =
     let l = c .before .before in
     let s = l .before .before .before in
-    (search needs, (search needs, rw (l .before .numbers .ensures) (wrote-room _ _ _ (l .loop .i) 3 (c .before .loop-test .taken) (s .pre .1 .1) (l .loop .inv .1))))
+    (search needs, (search needs, rw (l .before .all .ensures) (wrote-room _ _ _ (l .loop .i) 3 (c .before .loop-test .taken) (s .pre .1 .1) (l .loop .inv .1))))
 
 loop-again : tie.Need-loop-again Inv-loop μ-loop
 loop-again c =
     let t = c .before .before .before .before in
     let l = t .before in
     let s = l .before .before .before in
-    (search needs, wrote-more _ _ _ (l .loop .i) 3 (t .loop-test .taken) (s .pre .1 .1) (l .loop .inv .1) (rw (l .before .numbers .ensures) at (c .before .before .write-right .ensures)))
+    (search needs, wrote-more _ _ _ (l .loop .i) 3 (t .loop-test .taken) (s .pre .1 .1) (l .loop .inv .1) (rw (l .before .all .ensures) at (c .before .before .write-right .ensures)))
 
 same-length : tie.Need-same-length Inv-loop μ-loop
 same-length c =

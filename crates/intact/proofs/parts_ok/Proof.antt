@@ -13,7 +13,7 @@ levels-asked : tie.Need-levels-ok-requires
 levels-asked c κs =
     let e = c .before .levels-by-requirement .ensures in
     let p = c .before .before .before .before .before .args .t1 in
-    (search needs, (search needs, (search needs, subst (λ (xs : List ℕ). Free xs (p .requirements)) (sym e) (most-free (p .sizes) (p .lattice) (p .requirements)))))
+    (search needs, (search needs, (search needs, subst (λ (xs : List ℕ). Free xs (p .requirements)) (sym e) (most-free (p .«lattice_sizes») (p .«requirement_lattice») (p .requirements)))))
 
 returns : tie.Need-returns
 returns c = rw (← c .before .before .before .before .levels-by-requirement .ensures) (search calls)

@@ -5,19 +5,19 @@ use Prim.Native.Nat.{ℕ}
 use borrow.Author.Needs.{needs}
 use Rattle.base.proofs.Both.{both-on, both-off}
 use Rattle.lattice.specs.Levels.{joined, complete}
-use Rattle.lattice.specs.Sets.{Sound, Turned, underIn, turnedSets}
-use Rattle.lattice.proofs.Meets.{turned-sound, turned-agrees, turned-joined}
+use Rattle.lattice.specs.Sets.{OrderedSets, Turned, underIn, turnedSets}
+use Rattle.lattice.proofs.Meets.{turned-ordered, turned-agrees, turned-joined}
 use Rattle.lattice.proofs.Tables.{table-joined}
 use Rattle.joins.proofs.is_complete.Statement.{statement}
 use Rattle.joins.proofs.is_complete.Tie as tie
 
 -- what both tables ask: t is the turned sets of s
-module _ (n : ℕ) (s t : List ℕ) (w : Sound n s) (e : t ≡ turnedSets s) where
+module _ (n : ℕ) (s t : List ℕ) (w : OrderedSets n s) (e : t ≡ turnedSets s) where
   turned-of : Turned n s t
   turned-of i j p q = ap (λ (x : List ℕ). underIn x i j) e ∙ turned-agrees s n (w .clean) i j p q
 
-  turned-asked : Sound n t × Turned n t s
-  turned-asked = (subst (λ (x : List ℕ). Sound n x) (sym e) (turned-sound s n w), λ i j p q. sym (turned-of j i q p))
+  turned-asked : OrderedSets n t × Turned n t s
+  turned-asked = (subst (λ (x : List ℕ). OrderedSets n x) (sym e) (turned-ordered s n w), λ i j p q. sym (turned-of j i q p))
 
 joins-requires : tie.Need-joins-requires
 joins-requires c κs =

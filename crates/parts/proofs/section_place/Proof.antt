@@ -15,7 +15,7 @@ returns-2 : tie.Need-returns-2
 returns-2 c = search place-unknown
 
 offset-of-requires : tie.Need-offset-of-requires
-offset-of-requires c κs = (header-there _ (sym (c .before .before .placing-refusal .ensures) ∙ c .before .if1 .left), c .if2 .left)
+offset-of-requires c κs = (header-there _ (sym (c .before .before .header-refusal .ensures) ∙ c .before .if1 .left), c .if2 .left)
 
 end-of-requires : tie.Need-end-of-requires
 end-of-requires c κs = offset-of-requires (c .before) κs
@@ -24,7 +24,7 @@ returns-3 : tie.Need-returns-3
 returns-3 c =
     let o = c .before .offset-of .ensures .0 in
     let s = c .before .before in
-    place-known _ _ (s .before .before .placing-refusal .ensures) (s .before .if1 .left) (s .if2 .left)
+    place-known _ _ (s .before .before .header-refusal .ensures) (s .before .if1 .left) (s .if2 .left)
     (ap₂ (λ (b l : ℕ). record { begin = b; length = l }) o (rw (c .end-of .ensures, o, add-sub-cancel-left)))
 
 pub section-place-spec : {M : Type 1} → statement M

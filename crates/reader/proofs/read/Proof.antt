@@ -15,7 +15,7 @@ unfolding latticeZeros
 returns-2 c =
     let n = c .before .before in
     let p = n .before .before .before in
-    refused-late _ (p .before .before .placing-refusal .ensures) (p .before .if1 .left) (p .plant-from .ensures)
+    refused-late _ (p .before .before .header-refusal .ensures) (p .before .if1 .left) (p .plant-from .ensures)
     (n .before .before .zeros-in .ensures) (n .before .other-zeros .ensures) (n .refusal .ensures) (c .before .if2 .taken) (c .refused2 .ensures)
 
 returns-3 : tie.Need-returns-3
@@ -23,7 +23,7 @@ unfolding latticeZeros
 returns-3 c =
     let n = c .before in
     let p = n .before .before .before in
-    accepted _ (p .before .before .placing-refusal .ensures) (p .before .if1 .left) (p .plant-from .ensures)
+    accepted _ (p .before .before .header-refusal .ensures) (p .before .if1 .left) (p .plant-from .ensures)
     (n .before .before .zeros-in .ensures) (n .before .other-zeros .ensures) (n .refusal .ensures) (c .if2 .left) refl
 
 pub read-spec : {M : Type 1} → statement M

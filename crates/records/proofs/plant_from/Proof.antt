@@ -3,7 +3,7 @@ use mathlib.Core.Path.{ap₂, _∙_}
 use native.Mathlib.Omega.{arith}
 use Rattle.layout.specs.Layout.{tanks, tasks, skids}
 use Rattle.layout.proofs.Parts.{header-there, part-records}
-use Rattle.opening.specs.Reading.{latticeSize, latticeSets, requirementLattice, groupRequirement, tankGroup, tankLevel, taskNames, taskRights, skidTasks, bytesIn, wordsIn}
+use Rattle.opening.specs.Reading.{latticeSize, latticeSets, requirementLattice, groupRequirement, tankGroup, tankLevel, taskRequirements, taskRights, skidTasks, bytesIn, wordsIn}
 use borrow.Author.Needs.{needs}
 use Rattle.records.proofs.plant_from.Statement.{statement}
 use Rattle.records.proofs.plant_from.Tie as tie
@@ -80,15 +80,15 @@ returns c =
       tanks = n-tanks .count-byte4 .ensures i;
       tasks = n-tasks .count-byte5 .ensures i;
       skids = n-skids .count-byte6 .ensures i;
-      sizes = (sizes .read-eight .ensures ∙ ap₂ (bytesIn latticeSize) (of-lattices .part-of .ensures) (n-lattices .count-byte .ensures)) i;
-      sets = (sets .read-sets .ensures ∙ ap₂ (wordsIn latticeSets) (of-lattices .part-of .ensures) (n-lattices .count-byte .ensures)) i;
-      lattice = (lattice .read-eight2 .ensures ∙ ap₂ (bytesIn requirementLattice) (of-requirements .part-of4 .ensures) (n-requirements .count-byte2 .ensures)) i;
-      requirement = (requirement .read-eight3 .ensures ∙ ap₂ (bytesIn groupRequirement) (of-groups .part-of5 .ensures) (n-groups .count-byte3 .ensures)) i;
-      group = (group .read-tanks .ensures ∙ ap₂ (bytesIn tankGroup) (of-tanks .part-of2 .ensures) (n-tanks .count-byte4 .ensures)) i;
-      level = (level .read-tanks2 .ensures ∙ ap₂ (bytesIn tankLevel) (of-tanks .part-of2 .ensures) (n-tanks .count-byte4 .ensures)) i;
-      names = (names .read-names .ensures ∙ ap₂ (bytesIn taskNames) (of-tasks .part-of3 .ensures) (n-tasks .count-byte5 .ensures)) i;
-      rights = (rights .read-rights .ensures ∙ ap₂ (bytesIn taskRights) (of-tasks .part-of3 .ensures) (n-tasks .count-byte5 .ensures)) i;
-      may = (may .read-skids .ensures ∙ ap₂ (wordsIn skidTasks) (of-skids .part-of6 .ensures) (n-skids .count-byte6 .ensures)) i;
+      «lattice_sizes» = (sizes .read-eight .ensures ∙ ap₂ (bytesIn latticeSize) (of-lattices .part-of .ensures) (n-lattices .count-byte .ensures)) i;
+      «lattice_sets» = (sets .read-sets .ensures ∙ ap₂ (wordsIn latticeSets) (of-lattices .part-of .ensures) (n-lattices .count-byte .ensures)) i;
+      «requirement_lattice» = (lattice .read-eight2 .ensures ∙ ap₂ (bytesIn requirementLattice) (of-requirements .part-of4 .ensures) (n-requirements .count-byte2 .ensures)) i;
+      «group_requirement» = (requirement .read-eight3 .ensures ∙ ap₂ (bytesIn groupRequirement) (of-groups .part-of5 .ensures) (n-groups .count-byte3 .ensures)) i;
+      «tank_group» = (group .read-tanks .ensures ∙ ap₂ (bytesIn tankGroup) (of-tanks .part-of2 .ensures) (n-tanks .count-byte4 .ensures)) i;
+      «tank_level» = (level .read-tanks2 .ensures ∙ ap₂ (bytesIn tankLevel) (of-tanks .part-of2 .ensures) (n-tanks .count-byte4 .ensures)) i;
+      «task_requirements» = (names .read-names .ensures ∙ ap₂ (bytesIn taskRequirements) (of-tasks .part-of3 .ensures) (n-tasks .count-byte5 .ensures)) i;
+      «task_rights» = (rights .read-rights .ensures ∙ ap₂ (bytesIn taskRights) (of-tasks .part-of3 .ensures) (n-tasks .count-byte5 .ensures)) i;
+      «skid_tasks» = (may .read-skids .ensures ∙ ap₂ (wordsIn skidTasks) (of-skids .part-of6 .ensures) (n-skids .count-byte6 .ensures)) i;
     }
 
 pub plant-from-spec : {M : Type 1} → statement M

@@ -4,13 +4,13 @@ use mathlib.Core.Path.{_≡_}
 use Rattle.base.specs.Fill.{fill}
 use Rattle.base.proofs.Filled.{filled}
 use Rattle.plant.proofs.Links.{entry-at}
-use Rattle.test20.specs.Raw.{levelsFrom}
+use Rattle.test20.specs.Raw.{levelsOfRequirement}
 use borrow.Author.Needs.{needs}
 use Rattle.stored.proofs.levels_by_requirement.Statement.{statement}
 use Rattle.stored.proofs.levels_by_requirement.Tie as tie
 
 abbrev Inv-loop : tie.InvT-loop
-Inv-loop sizes lattice requirements most₀ d₀ most d = (d ≤ requirements) × (most ≡ fill (levelsFrom sizes lattice) most₀ d)
+Inv-loop sizes lattice requirements most₀ d₀ most d = (d ≤ requirements) × (most ≡ fill (levelsOfRequirement sizes lattice) most₀ d)
 
 abbrev μ-loop : tie.MeasureT-loop
 μ-loop sizes lattice requirements most₀ d₀ most d = requirements - d

@@ -4,13 +4,13 @@ use mathlib.Core.Path.{_≡_}
 use mathlib.Core.Bool.{true}
 use Rattle.base.specs.Below.{allBelow}
 use Rattle.base.proofs.Scan.{scan}
-use Rattle.plant.specs.Checks.{taskRightsIn}
+use Rattle.plant.specs.Checks.{taskRightsFitIn}
 use borrow.Author.Needs.{needs}
 use Rattle.tasks.proofs.rights_fit.Statement.{statement}
 use Rattle.tasks.proofs.rights_fit.Tie as tie
 
 abbrev Inv-loop : tie.InvT-loop
-Inv-loop rights groups t g₀ g = (g ≤ 8) × (allBelow (taskRightsIn rights groups t) g ≡ true)
+Inv-loop rights groups t g₀ g = (g ≤ 8) × (allBelow (taskRightsFitIn rights groups t) g ≡ true)
 
 abbrev μ-loop : tie.MeasureT-loop
 μ-loop rights groups t g₀ g = 8 - g

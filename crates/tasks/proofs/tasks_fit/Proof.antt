@@ -5,13 +5,13 @@ use mathlib.Core.Path.{_≡_}
 use mathlib.Core.Bool.{true}
 use Rattle.base.specs.Below.{allBelow}
 use Rattle.base.proofs.Scan.{scan}
-use Rattle.plant.specs.Checks.{taskIn}
+use Rattle.plant.specs.Checks.{taskFitsIn}
 use borrow.Author.Needs.{needs}
 use Rattle.tasks.proofs.tasks_fit.Statement.{statement}
 use Rattle.tasks.proofs.tasks_fit.Tie as tie
 
 abbrev Inv-loop : tie.InvT-loop
-Inv-loop names rights requirements groups tasks n t₀ t = (t ≤ n) × (allBelow (λ (x : ℕ). taskIn (getD names x 0) rights requirements groups x) t ≡ true)
+Inv-loop names rights requirements groups tasks n t₀ t = (t ≤ n) × (allBelow (λ (x : ℕ). taskFitsIn (getD names x 0) rights requirements groups x) t ≡ true)
 
 abbrev μ-loop : tie.MeasureT-loop
 μ-loop names rights requirements groups tasks n t₀ t = n - t

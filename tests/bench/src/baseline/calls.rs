@@ -79,7 +79,7 @@ pub fn start(
         return 22;
     }
     let s = usize::from(skid) & 7;
-    if (plant.may[s] >> (task & 15)) & 1 == 0 {
+    if (plant.skid_tasks[s] >> (task & 15)) & 1 == 0 {
         return 25;
     }
     if record.running[s] != NONE {
@@ -92,7 +92,7 @@ pub fn start(
     while needed != 0 {
         let (g, rest) = first_byte(needed);
         needed = rest;
-        let level = levels[usize::from(plant.requirement[g]) & 7];
+        let level = levels[usize::from(plant.group_requirement[g]) & 7];
         if level == NONE {
             return 27;
         }
@@ -110,14 +110,15 @@ pub fn start(
 /// The nearest tank with the lowest number, or none.
 #[inline(always)]
 pub fn choice(plant: &Plant, tables: &Tables, group: usize, level: usize) -> u8 {
-    let l = usize::from(plant.lattice[usize::from(plant.requirement[group]) & 7]) & 7;
+    let l =
+        usize::from(plant.requirement_lattice[usize::from(plant.group_requirement[group]) & 7]) & 7;
     let candidates = tables.places[group] & tables.under[l][level & 15];
     let mut lowest = NONE;
     let mut rest = candidates;
     while rest != 0 {
         let v = rest.trailing_zeros() as usize & 15;
         rest &= rest - 1;
-        let nearest = plant.sets[l * 16 + v] & candidates == 1 << v;
+        let nearest = plant.lattice_sets[l * 16 + v] & candidates == 1 << v;
         let tank = tables.tank_at[group * 16 + v];
         lowest = if nearest { lowest.min(tank) } else { lowest };
     }
@@ -146,8 +147,8 @@ fn gate(record: &Record, skid: u8, tank: u8, right: u8) -> u8 {
     if task == NONE {
         return 33;
     }
-    let g = usize::from(plant.group[usize::from(tank) & 63]) & 7;
-    let named = (plant.rights[(usize::from(task) & 15) * 8 + g] >> right) & 1 == 1;
+    let g = usize::from(plant.tank_group[usize::from(tank) & 63]) & 7;
+    let named = (plant.task_rights[(usize::from(task) & 15) * 8 + g] >> right) & 1 == 1;
     if named & (record.chosen[s * 8 + g] == tank) {
         0
     } else {

@@ -66,7 +66,7 @@ fn skid_passes(record: &Record, s: usize) -> bool {
     if task == NONE {
         return true;
     }
-    if task >= plant.tasks || (plant.may[s] >> (task & 15)) & 1 == 0 {
+    if task >= plant.tasks || (plant.skid_tasks[s] >> (task & 15)) & 1 == 0 {
         return false;
     }
     let mut needed = nonzero(rights_of(plant, usize::from(task)));
@@ -74,7 +74,7 @@ fn skid_passes(record: &Record, s: usize) -> bool {
         let (g, rest) = first_byte(needed);
         needed = rest;
         let tank = record.chosen[s * 8 + g];
-        if tank >= plant.tanks || usize::from(plant.group[usize::from(tank) & 63]) != g {
+        if tank >= plant.tanks || usize::from(plant.tank_group[usize::from(tank) & 63]) != g {
             return false;
         }
     }

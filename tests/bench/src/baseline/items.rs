@@ -7,13 +7,13 @@ use super::{nonzero, rights_of, Tables, ONES};
 /// 10, 11, 12 or 0. The counts are in range and the lattices are lattices.
 #[inline(always)]
 pub fn items_number(plant: &Plant, tables: &mut Tables) -> u8 {
-    let requirements = &plant.lattice[..usize::from(plant.requirements)];
-    let groups = &plant.requirement[..usize::from(plant.groups)];
+    let requirements = &plant.requirement_lattice[..usize::from(plant.requirements)];
+    let groups = &plant.group_requirement[..usize::from(plant.groups)];
     if any_from(requirements, plant.lattices) || any_from(groups, plant.requirements) {
         return 10;
     }
     for (size, &lattice) in tables.sizes.iter_mut().zip(requirements) {
-        *size = plant.sizes[usize::from(lattice) & 7];
+        *size = plant.lattice_sizes[usize::from(lattice) & 7];
     }
     let Some(shared) = place_tanks(plant, tables) else {
         return 10;
@@ -39,12 +39,13 @@ fn any_from(numbers: &[u8], count: u8) -> bool {
 fn place_tanks(plant: &Plant, tables: &mut Tables) -> Option<bool> {
     // Past the groups there is no level.
     let mut sizes = [0u8; 8];
-    for (size, requirement) in sizes.iter_mut().zip(&plant.requirement[..usize::from(plant.groups)])
+    for (size, requirement) in
+        sizes.iter_mut().zip(&plant.group_requirement[..usize::from(plant.groups)])
     {
         *size = tables.sizes[usize::from(*requirement) & 7];
     }
     let mut shared = 0;
-    let tanks = plant.group.iter().zip(&plant.level).take(usize::from(plant.tanks));
+    let tanks = plant.tank_group.iter().zip(&plant.tank_level).take(usize::from(plant.tanks));
     for (tank, (&group, &level)) in tanks.enumerate() {
         let g = usize::from(group);
         if g >= 8 || level >= sizes[g] {
@@ -68,7 +69,7 @@ fn tasks_number(plant: &Plant) -> u8 {
     let mut wrong = 0;
     let mut unnamed = 0;
     for t in 0..usize::from(plant.tasks) {
-        let names = plant.names[t];
+        let names = plant.task_requirements[t];
         let rights = rights_of(plant, t);
         let named = nonzero(requirement_bits & (u64::from(names) * ONES));
         wrong |= (rights & no_right) | (u64::from(names) >> plant.requirements);
@@ -86,12 +87,12 @@ fn tasks_number(plant: &Plant) -> u8 {
 /// Byte g has the bit of the requirement of group g.
 #[inline(always)]
 fn requirement_bits(plant: &Plant) -> u64 {
-    let groups = &plant.requirement[..usize::from(plant.groups)];
+    let groups = &plant.group_requirement[..usize::from(plant.groups)];
     groups.iter().rev().fold(0, |bits, &requirement| (bits << 8) | (1 << (requirement & 7)))
 }
 
 #[inline(always)]
 fn any_skid_wrong(plant: &Plant) -> bool {
-    let skids = &plant.may[..usize::from(plant.skids)];
+    let skids = &plant.skid_tasks[..usize::from(plant.skids)];
     skids.iter().any(|&may| u32::from(may) >> plant.tasks != 0)
 }

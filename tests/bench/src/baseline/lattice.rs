@@ -17,8 +17,8 @@ type Sets = [u16; 16];
 pub fn lattices_number(plant: &Plant, tables: &mut Tables) -> u8 {
     let mut lowest = 0;
     for l in 0..usize::from(plant.lattices) {
-        let sets: &Sets = plant.sets[l * 16..l * 16 + 16].try_into().unwrap();
-        let number = lattice_number(plant.sizes[l], sets, &mut tables.under[l]);
+        let sets: &Sets = plant.lattice_sets[l * 16..l * 16 + 16].try_into().unwrap();
+        let number = lattice_number(plant.lattice_sizes[l], sets, &mut tables.under[l]);
         if number != 0 && (lowest == 0 || number < lowest) {
             lowest = number;
         }

@@ -130,8 +130,8 @@ fn read(plant: &mut Plant, file: &[u8], begins: &[usize; 6]) -> Zeros {
     };
     Zeros {
         lattices: read_lattices(plant, section(0)),
-        others: read_numbers(&mut plant.lattice, section(1))
-            | read_numbers(&mut plant.requirement, section(2))
+        others: read_numbers(&mut plant.requirement_lattice, section(1))
+            | read_numbers(&mut plant.group_requirement, section(2))
             | read_tanks(plant, section(3))
             | read_tasks(plant, section(4))
             | read_skids(plant, section(5)),
@@ -141,8 +141,8 @@ fn read(plant: &mut Plant, file: &[u8], begins: &[usize; 6]) -> Zeros {
 #[inline(always)]
 fn read_lattices(plant: &mut Plant, section: &[u8]) -> u8 {
     let mut zeros = 0;
-    let sets = plant.sets.chunks_exact_mut(16);
-    for ((record, size), sets) in section.chunks_exact(34).zip(&mut plant.sizes).zip(sets) {
+    let sets = plant.lattice_sets.chunks_exact_mut(16);
+    for ((record, size), sets) in section.chunks_exact(34).zip(&mut plant.lattice_sizes).zip(sets) {
         *size = record[0];
         zeros |= record[1];
         for i in 0..16 {
@@ -165,7 +165,7 @@ fn read_numbers(numbers: &mut [u8; 8], section: &[u8]) -> u8 {
 
 #[inline(always)]
 fn read_tanks(plant: &mut Plant, section: &[u8]) -> u8 {
-    let tanks = plant.group.iter_mut().zip(&mut plant.level);
+    let tanks = plant.tank_group.iter_mut().zip(&mut plant.tank_level);
     for (record, (group, level)) in section.chunks_exact(2).zip(tanks) {
         *group = record[0];
         *level = record[1];
@@ -176,7 +176,7 @@ fn read_tanks(plant: &mut Plant, section: &[u8]) -> u8 {
 #[inline(always)]
 fn read_tasks(plant: &mut Plant, section: &[u8]) -> u8 {
     let mut zeros = 0;
-    let tasks = plant.names.iter_mut().zip(plant.rights.chunks_exact_mut(8));
+    let tasks = plant.task_requirements.iter_mut().zip(plant.task_rights.chunks_exact_mut(8));
     for (record, (names, rights)) in section.chunks_exact(10).zip(tasks) {
         *names = record[0];
         zeros |= record[1];
@@ -187,7 +187,7 @@ fn read_tasks(plant: &mut Plant, section: &[u8]) -> u8 {
 
 #[inline(always)]
 fn read_skids(plant: &mut Plant, section: &[u8]) -> u8 {
-    for (record, may) in section.chunks_exact(2).zip(&mut plant.may) {
+    for (record, may) in section.chunks_exact(2).zip(&mut plant.skid_tasks) {
         *may = u16::from_le_bytes([record[0], record[1]]);
     }
     0

@@ -115,14 +115,14 @@ fn damage_count(rng: &mut Rng, plant: &mut Plant) -> bool {
 /// 7: n out of range, or a set or a bit at n or past it.
 fn damage_layout(rng: &mut Rng, plant: &mut Plant) -> bool {
     let l = rng.below(plant.count(LATTICES));
-    let n = usize::from(plant.sizes[l]);
+    let n = usize::from(plant.lattice_sizes[l]);
     let past = if rng.chance(1, 2) { n } else { 15 };
     match rng.below(4) {
-        0 => plant.sizes[l] = 0,
-        1 if n == 16 => plant.sizes[l] = 17,
-        1 => plant.sizes[l] = rng.pick(&[17, 255]),
-        2 if n < 16 => plant.sets[l * 16 + past] = 1 << rng.below(n),
-        3 if n < 16 => plant.sets[l * 16 + rng.below(n)] |= 1 << past,
+        0 => plant.lattice_sizes[l] = 0,
+        1 if n == 16 => plant.lattice_sizes[l] = 17,
+        1 => plant.lattice_sizes[l] = rng.pick(&[17, 255]),
+        2 if n < 16 => plant.lattice_sets[l * 16 + past] = 1 << rng.below(n),
+        3 if n < 16 => plant.lattice_sets[l * 16 + rng.below(n)] |= 1 << past,
         _ => return false,
     }
     true
@@ -136,11 +136,11 @@ fn damage_lattice(
     least: usize,
 ) -> bool {
     let l = rng.below(plant.count(LATTICES));
-    let n = usize::from(plant.sizes[l]);
+    let n = usize::from(plant.lattice_sizes[l]);
     if n < least {
         return false;
     }
-    plant.sets[l * 16..l * 16 + 16].copy_from_slice(&make(rng, n).sets);
+    plant.lattice_sets[l * 16..l * 16 + 16].copy_from_slice(&make(rng, n).sets);
     true
 }
 
@@ -155,17 +155,17 @@ fn damage_number_or_bit(rng: &mut Rng, record: &mut Record) -> bool {
     match rng.below(8) {
         0 if lattices < 8 => {
             copy_lattice_0(plant, lattices);
-            plant.lattice[rng.below(requirements)] = lattices as u8;
+            plant.requirement_lattice[rng.below(requirements)] = lattices as u8;
         }
         1 if requirements < 8 => {
-            plant.lattice[requirements] = plant.lattice[0];
-            plant.requirement[rng.below(groups)] = requirements as u8;
+            plant.requirement_lattice[requirements] = plant.requirement_lattice[0];
+            plant.group_requirement[rng.below(groups)] = requirements as u8;
         }
-        2 => plant.group[tank] = groups as u8,
-        3 => plant.level[tank] = n as u8,
-        4 if requirements < 8 => plant.names[task] |= 1 << requirements,
-        5 if groups < 8 => plant.rights[task * 8 + groups] = rng.between(1, 7) as u8,
-        6 if tasks < 16 => plant.may[rng.below(skids)] |= 1 << tasks,
+        2 => plant.tank_group[tank] = groups as u8,
+        3 => plant.tank_level[tank] = n as u8,
+        4 if requirements < 8 => plant.task_requirements[task] |= 1 << requirements,
+        5 if groups < 8 => plant.task_rights[task * 8 + groups] = rng.between(1, 7) as u8,
+        6 if tasks < 16 => plant.skid_tasks[rng.below(skids)] |= 1 << tasks,
         7 => return damage_right_bit(rng, plant),
         _ => return false,
     }
@@ -173,15 +173,15 @@ fn damage_number_or_bit(rng: &mut Rng, record: &mut Record) -> bool {
 }
 
 fn copy_lattice_0(plant: &mut Plant, l: usize) {
-    plant.sizes[l] = plant.sizes[0];
-    plant.sets.copy_within(0..16, l * 16);
+    plant.lattice_sizes[l] = plant.lattice_sizes[0];
+    plant.lattice_sets.copy_within(0..16, l * 16);
 }
 
 /// A right bit 3 to 7 where the task names a right already.
 fn damage_right_bit(rng: &mut Rng, plant: &mut Plant) -> bool {
     match some_need(rng, plant) {
         Some((task, group)) => {
-            plant.rights[task * 8 + group] |= 1 << rng.between(3, 7);
+            plant.task_rights[task * 8 + group] |= 1 << rng.between(3, 7);
             true
         }
         None => false,
@@ -206,7 +206,7 @@ fn damage_places(rng: &mut Rng, plant: &mut Plant) -> bool {
         return false;
     }
     rng.shuffle(&mut tanks);
-    plant.level[tanks[0]] = plant.level[tanks[1]];
+    plant.tank_level[tanks[0]] = plant.tank_level[tanks[1]];
     true
 }
 
@@ -214,7 +214,7 @@ fn damage_places(rng: &mut Rng, plant: &mut Plant) -> bool {
 fn damage_names(rng: &mut Rng, plant: &mut Plant) -> bool {
     match some_need(rng, plant) {
         Some((task, group)) => {
-            plant.names[task] &= !(1 << plant.requirement_of(group));
+            plant.task_requirements[task] &= !(1 << plant.requirement_of(group));
             true
         }
         None => false,
@@ -290,17 +290,17 @@ pub fn free_change(rng: &mut Rng, record: &Record) -> Record {
 fn change_plant_past_counts(rng: &mut Rng, plant: &mut Plant) {
     let [lattices, requirements, groups, tanks, tasks, skids] = plant.counts();
     let mut fill = |bytes: &mut [u8]| bytes.iter_mut().for_each(|byte| *byte = rng.byte());
-    fill(&mut plant.sizes[lattices..]);
-    fill(&mut plant.lattice[requirements..]);
-    fill(&mut plant.requirement[groups..]);
-    fill(&mut plant.group[tanks..]);
-    fill(&mut plant.level[tanks..]);
-    fill(&mut plant.names[tasks..]);
-    fill(&mut plant.rights[tasks * 8..]);
-    for set in &mut plant.sets[lattices * 16..] {
+    fill(&mut plant.lattice_sizes[lattices..]);
+    fill(&mut plant.requirement_lattice[requirements..]);
+    fill(&mut plant.group_requirement[groups..]);
+    fill(&mut plant.tank_group[tanks..]);
+    fill(&mut plant.tank_level[tanks..]);
+    fill(&mut plant.task_requirements[tasks..]);
+    fill(&mut plant.task_rights[tasks * 8..]);
+    for set in &mut plant.lattice_sets[lattices * 16..] {
         *set = rng.bits() as u16;
     }
-    for may in &mut plant.may[skids..] {
+    for may in &mut plant.skid_tasks[skids..] {
         *may = rng.bits() as u16;
     }
 }
@@ -351,15 +351,15 @@ fn change_levels(rng: &mut Rng, record: &mut Record) {
 pub fn record_bytes(record: &Record) -> Vec<u8> {
     let plant = &record.plant;
     let mut bytes = plant.counts().map(|count| count as u8).to_vec();
-    bytes.extend(plant.sizes);
-    bytes.extend(plant.sets.iter().flat_map(|set| set.to_le_bytes()));
-    bytes.extend(plant.lattice);
-    bytes.extend(plant.requirement);
-    bytes.extend(plant.group);
-    bytes.extend(plant.level);
-    bytes.extend(plant.names);
-    bytes.extend(plant.rights);
-    bytes.extend(plant.may.iter().flat_map(|may| may.to_le_bytes()));
+    bytes.extend(plant.lattice_sizes);
+    bytes.extend(plant.lattice_sets.iter().flat_map(|set| set.to_le_bytes()));
+    bytes.extend(plant.requirement_lattice);
+    bytes.extend(plant.group_requirement);
+    bytes.extend(plant.tank_group);
+    bytes.extend(plant.tank_level);
+    bytes.extend(plant.task_requirements);
+    bytes.extend(plant.task_rights);
+    bytes.extend(plant.skid_tasks.iter().flat_map(|may| may.to_le_bytes()));
     bytes.extend(record.levels);
     bytes.extend(record.running);
     bytes.extend(record.chosen);
@@ -380,15 +380,15 @@ pub fn record_of_bytes(bytes: &[u8]) -> Record {
     let counts = take(6);
     [plant.lattices, plant.requirements, plant.groups] = [counts[0], counts[1], counts[2]];
     [plant.tanks, plant.tasks, plant.skids] = [counts[3], counts[4], counts[5]];
-    plant.sizes.copy_from_slice(take(8));
-    plant.sets.iter_mut().zip(take(256).chunks(2)).for_each(|(set, pair)| *set = two(pair));
-    plant.lattice.copy_from_slice(take(8));
-    plant.requirement.copy_from_slice(take(8));
-    plant.group.copy_from_slice(take(64));
-    plant.level.copy_from_slice(take(64));
-    plant.names.copy_from_slice(take(16));
-    plant.rights.copy_from_slice(take(128));
-    plant.may.iter_mut().zip(take(16).chunks(2)).for_each(|(may, pair)| *may = two(pair));
+    plant.lattice_sizes.copy_from_slice(take(8));
+    plant.lattice_sets.iter_mut().zip(take(256).chunks(2)).for_each(|(set, pair)| *set = two(pair));
+    plant.requirement_lattice.copy_from_slice(take(8));
+    plant.group_requirement.copy_from_slice(take(8));
+    plant.tank_group.copy_from_slice(take(64));
+    plant.tank_level.copy_from_slice(take(64));
+    plant.task_requirements.copy_from_slice(take(16));
+    plant.task_rights.copy_from_slice(take(128));
+    plant.skid_tasks.iter_mut().zip(take(16).chunks(2)).for_each(|(may, pair)| *may = two(pair));
     record.levels.copy_from_slice(take(1024));
     record.running.copy_from_slice(take(8));
     record.chosen.copy_from_slice(take(64));
