@@ -66,29 +66,28 @@ pub fn call_tested(m: Monitor, kind: u8, a: u8, b: u8, c: u8, d: u8) -> Answered
     requires { ⌜ intact (m .plant) m ≡ true ⌝ }
     ensures { λ r. ⌜ r ≡ stepOf m (callBy kind a b c d) ⌝ }
 {
-    let p = m.plant;
     let mut running = m.running;
     let mut chosen = m.chosen;
     let mut next = m;
     let counts = Counts {
-        lattices: p.lattices,
-        requirements: p.requirements,
-        groups: p.groups,
-        tanks: p.tanks,
-        tasks: p.tasks,
-        skids: p.skids,
+        lattices: m.plant.lattices,
+        requirements: m.plant.requirements,
+        groups: m.plant.groups,
+        tanks: m.plant.tanks,
+        tasks: m.plant.tasks,
+        skids: m.plant.skids,
     };
     let answer = call_at(
         counts,
-        &p.lattice_sizes,
-        &p.lattice_sets,
-        &p.requirement_lattice,
-        &p.group_requirement,
-        &p.tank_group,
-        &p.tank_level,
-        &p.task_requirements,
-        &p.task_rights,
-        &p.skid_tasks,
+        &m.plant.lattice_sizes,
+        &m.plant.lattice_sets,
+        &m.plant.requirement_lattice,
+        &m.plant.group_requirement,
+        &m.plant.tank_group,
+        &m.plant.tank_level,
+        &m.plant.task_requirements,
+        &m.plant.task_rights,
+        &m.plant.skid_tasks,
         &mut next.levels,
         &mut running,
         &mut chosen,
