@@ -1,12 +1,12 @@
-// The test of a lattice record: check 7, and with crates orders and joins the number that refuses it.
+// The test of a lattice record: check 7, and with crates above and joins the number that refuses it.
 ghost use mathlib.Core.Path.{_≡_};
 ghost use Prim.Native.Nat.{_<_, _≤_};
 ghost use Rattle.base.specs.Below.{allBelow};
 ghost use Rattle.lattice.specs.Levels.{setClear, layout, refusal};
 ghost use Rattle.lattice.specs.Sets.{withSets};
+use above::in_order;
 use joins::is_complete;
 use lattice::Lattice;
-use orders::in_order;
 use sets::wider;
 
 // Set i has no bit from n on, and none at all where level i is not used.

@@ -1,4 +1,4 @@
-// Check 8: whether the levels of a lattice record are in order.
+// Check 8: what lies above each level of a lattice record, and whether the levels are in order.
 ghost use mathlib.Core.Path.{_≡_};
 ghost use Prim.Native.Nat.{_<_};
 ghost use Rattle.base.specs.Below.{allBelow};

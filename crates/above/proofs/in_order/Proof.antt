@@ -1,4 +1,4 @@
--- `orders::in_order` meets its contract: what lies further above is added level by level, and then the law of whole sets. Assumes nothing.
+-- `above::in_order` meets its contract: what lies further above is added level by level, and then the law of whole sets. Assumes nothing.
 use Prim.Native.Nat.{ℕ, _≤_, _-_}
 use mathlib.Core.Path.{_≡_, sym, subst, _∙_}
 use mathlib.Core.Bool.{true}
@@ -11,8 +11,8 @@ use Rattle.base.proofs.Below.{all-at}
 use Rattle.base.proofs.Scan.{all-none, all-on}
 use Rattle.lattice.specs.Sets.{underIn}
 use Rattle.lattice.proofs.Rows.{FurtherTo, further-starts, further-next, within-ordered, not-ordered}
-use Rattle.orders.proofs.in_order.Statement.{statement}
-use Rattle.orders.proofs.in_order.Tie as tie
+use Rattle.above.proofs.in_order.Statement.{statement}
+use Rattle.above.proofs.in_order.Tie as tie
 
 -- what the loop knows: the levels passed are under themselves, and what lies above them is added
 abbrev Passed : List ℕ → ℕ → List ℕ → Type 0

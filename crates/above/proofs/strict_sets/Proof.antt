@@ -1,9 +1,9 @@
--- `orders::strict_sets` meets its contract: one set after the other loses its own level. Assumes nothing.
+-- `above::strict_sets` meets its contract: one set after the other loses its own level. Assumes nothing.
 use Prim.Native.Nat.{_≤_, _-_}
 use borrow.Author.Needs.{needs}
 use Rattle.lattice.proofs.Rows.{StrictTo, strict-starts, strict-next, strict-ends}
-use Rattle.orders.proofs.strict_sets.Statement.{statement}
-use Rattle.orders.proofs.strict_sets.Tie as tie
+use Rattle.above.proofs.strict_sets.Statement.{statement}
+use Rattle.above.proofs.strict_sets.Tie as tie
 
 abbrev Inv-loop : tie.InvT-loop
 Inv-loop s strict₀ i₀ strict i = (i ≤ 16) × StrictTo s i strict

@@ -1,4 +1,4 @@
--- `orders::add_above` meets its contract, by the laws of a fill. Assumes nothing.
+-- `above::add_above` meets its contract, by the laws of a fill. Assumes nothing.
 use Prim.Native.Nat.{_≤_, _-_}
 use mathlib.Core.Path.{_≡_}
 use mathlib.Core.Bool.{cond}
@@ -9,8 +9,8 @@ use Rattle.base.specs.Bits.{bit}
 use Rattle.base.specs.Fill.{fill}
 use Rattle.base.proofs.Filled.{fill-map, filled}
 use Rattle.lattice.specs.Sets.{raisedAt}
-use Rattle.orders.proofs.add_above.Statement.{statement}
-use Rattle.orders.proofs.add_above.Tie as tie
+use Rattle.above.proofs.add_above.Statement.{statement}
+use Rattle.above.proofs.add_above.Tie as tie
 
 abbrev Inv-loop : tie.InvT-loop
 Inv-loop further₀ strict j x i₀ further i = (i ≤ 16) × (further ≡ fill (raisedAt strict j x further₀) further₀ i)

@@ -1,4 +1,4 @@
--- `orders::all_within` meets its contract, by the laws of a scan. Assumes nothing.
+-- `above::all_within` meets its contract, by the laws of a scan. Assumes nothing.
 use Prim.Native.Nat.{_≤_, _-_}
 use mathlib.Core.Path.{_≡_}
 use mathlib.Core.Bool.{true}
@@ -6,8 +6,8 @@ use borrow.Author.Needs.{needs}
 use Rattle.base.specs.Below.{allBelow}
 use Rattle.base.proofs.Scan.{scan-compare}
 use Rattle.lattice.specs.Sets.{isWithin}
-use Rattle.orders.proofs.all_within.Statement.{statement}
-use Rattle.orders.proofs.all_within.Tie as tie
+use Rattle.above.proofs.all_within.Statement.{statement}
+use Rattle.above.proofs.all_within.Tie as tie
 
 abbrev Inv-loop : tie.InvT-loop
 Inv-loop further strict i₀ i = (i ≤ 16) × (allBelow (isWithin further strict) i ≡ true)
