@@ -5,9 +5,9 @@ ghost use Prim.Native.Nat.{_+_, _*_, _≤_};
 ghost use lib.ListN.{length};
 ghost use Rattle.base.specs.Overlay.{overlay};
 ghost use Rattle.plant.specs.Checks.{plantRefusal};
-ghost use Rattle.rules.specs.Record.{fresh};
+ghost use Rattle.rules.specs.Record.{fresh, recordOf};
 ghost use Rattle.rules.specs.Run.{runs, ends};
-ghost use Rattle.batch.specs.RequestBytes.{requestAt, callsOf};
+ghost use Rattle.calls.specs.RequestBytes.{requestAt, callsOf};
 use calls::Counts;
 use plant::Plant;
 use turns::turn;
@@ -37,7 +37,8 @@ fn request_at(bytes: &[u8], i: usize) -> [u8; 5]
 pub fn serve(p: Plant, bytes: &[u8], n: usize, out: &mut [u8]) -> Parts
     requires { ⌜ plantRefusal true true p ≡ 0 ⌝ }
     requires { ⌜ (n * 5 ≤ length (now bytes)) × (n ≤ length (now out)) ⌝ }
-    ensures { λ r. ⌜ (record { plant = p; levels = r .levels; running = r .running; chosen = r .chosen } ≡ ends (fresh p) (callsOf (now (bytes .entry)) n)) × (now (out .exit) ≡ overlay (now (out .entry)) 0 (runs (fresh p) (callsOf (now (bytes .entry)) n))) ⌝ }
+    ensures { λ r. ⌜ recordOf p (r .levels) (r .running) (r .chosen) ≡ ends (fresh p) (callsOf (now (bytes .entry)) n) ⌝ }
+    ensures { λ r. ⌜ now (out .exit) ≡ overlay (now (out .entry)) 0 (runs (fresh p) (callsOf (now (bytes .entry)) n)) ⌝ }
 {
     let mut levels = [255u8; 1024];
     let mut running = [255u8; 8];

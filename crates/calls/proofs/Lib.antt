@@ -8,3 +8,4 @@ pub mod Ready
 pub mod Views
 pub mod Steps
 pub mod Start
+pub mod Served

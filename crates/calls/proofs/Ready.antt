@@ -31,10 +31,6 @@ module _ (m : Monitor) (i : intact (m .plant) m ≡ true) where
   skid-intact : (s : ℕ) → s < m .plant .skids → IntactView (m .plant) s (viewOf (m .plant) m s)
   skid-intact = intact-means (m .plant) (viewOf (m .plant) m) .0 i .skids-intact
 
-  pub lattices-there : allBelow (entryBelow (m .plant .«requirement_lattice») 8) (m .plant .requirements) ≡ true
-  lattices-there = all-yes (m .plant .requirements) (entryBelow (m .plant .«requirement_lattice») 8)
-      (λ d l. lt-ltb (latticeOf (m .plant) d) 8 (omega (arith, plant-valid .lattice-in d l, plant-valid .counts .lattices-fit)))
-
   pub links-there : allBelow (linkIn (m .plant .«requirement_lattice») (m .plant .«group_requirement»)) (m .plant .groups) ≡ true
   links-there = all-yes (m .plant .groups) (linkIn (m .plant .«requirement_lattice») (m .plant .«group_requirement»))
       (λ g l. let r = plant-valid .req-in g l in

@@ -61,34 +61,52 @@ pub fn open(file: &[u8]) -> Answered
     }
 }
 
-// One request on a record that has passed test 20. The record is taken apart once and made anew once; the work is on lent arrays.
+// A part of the record that a call may have changed, stored whole.
+fn put_running(part: &mut [u8; 8], running: [u8; 8])
+    ensures { λ r. ⌜ now (part .exit) ≡ running ⌝ }
+{
+    *part = running;
+}
+
+fn put_chosen(part: &mut [u8; 64], chosen: [u8; 64])
+    ensures { λ r. ⌜ now (part .exit) ≡ chosen ⌝ }
+{
+    *part = chosen;
+}
+
+// One request on a record that has passed test 20. The record is copied into the answer once and changed there: the levels in place, the two small
+// parts by copies of them, since one part at a time can be lent to be changed, and the plant from a copy, since none can be lent beside it.
 pub fn call_tested(m: Monitor, kind: u8, a: u8, b: u8, c: u8, d: u8) -> Answered
     requires { ⌜ intact (m .plant) m ≡ true ⌝ }
     ensures { λ r. ⌜ r ≡ stepOf m (callBy kind a b c d) ⌝ }
 {
+    let p = m.plant;
     let mut running = m.running;
     let mut chosen = m.chosen;
-    let mut next = m;
-    let counts = Counts {
-        lattices: m.plant.lattices,
-        requirements: m.plant.requirements,
-        groups: m.plant.groups,
-        tanks: m.plant.tanks,
-        tasks: m.plant.tasks,
-        skids: m.plant.skids,
+    let mut r = Answered {
+        answer: 0,
+        monitor: m,
     };
-    let answer = call_at(
+    let counts = Counts {
+        lattices: p.lattices,
+        requirements: p.requirements,
+        groups: p.groups,
+        tanks: p.tanks,
+        tasks: p.tasks,
+        skids: p.skids,
+    };
+    r.answer = call_at(
         counts,
-        &m.plant.lattice_sizes,
-        &m.plant.lattice_sets,
-        &m.plant.requirement_lattice,
-        &m.plant.group_requirement,
-        &m.plant.tank_group,
-        &m.plant.tank_level,
-        &m.plant.task_requirements,
-        &m.plant.task_rights,
-        &m.plant.skid_tasks,
-        &mut next.levels,
+        &p.lattice_sizes,
+        &p.lattice_sets,
+        &p.requirement_lattice,
+        &p.group_requirement,
+        &p.tank_group,
+        &p.tank_level,
+        &p.task_requirements,
+        &p.task_rights,
+        &p.skid_tasks,
+        &mut r.monitor.levels,
         &mut running,
         &mut chosen,
         kind,
@@ -97,12 +115,9 @@ pub fn call_tested(m: Monitor, kind: u8, a: u8, b: u8, c: u8, d: u8) -> Answered
         c,
         d,
     );
-    next.running = running;
-    next.chosen = chosen;
-    Answered {
-        answer: answer,
-        monitor: next,
-    }
+    put_running(&mut r.monitor.running, running);
+    put_chosen(&mut r.monitor.chosen, chosen);
+    r
 }
 
 // One request of any kind on any record whatever: test 20, and the request behind it.

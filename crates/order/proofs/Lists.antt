@@ -14,7 +14,7 @@ use Rattle.monitor.specs.Calls.{openedOf}
 use Rattle.requests.specs.declared.Request.{Request}
 use Rattle.requests.specs.Requests.{callOf}
 use Rattle.queue.specs.Queue.{queueOf, queueRefusal}
-use Rattle.batch.proofs.Served.{calls-length, calls-at}
+use Rattle.calls.proofs.Served.{calls-length, calls-at}
 use Rattle.listing.proofs.Listed.{lists-same}
 use Rattle.outcome.specs.Batch.{batchRefusal, batchCalls, batchOut}
 use Rattle.order.specs.Order.{Kinds, Requests, QueueTold, BatchTold}

@@ -23,7 +23,7 @@ use Rattle.rules.specs.Demand.{Demand3}
 use Rattle.rules.proofs.Demand.{demand3}
 use Rattle.rules.proofs.Accepted.{gate-zero}
 use Rattle.rules.proofs.Agree.{fresh-agree, list-agree}
-use Rattle.batch.proofs.Served.{runs-length, calls-length, calls-at}
+use Rattle.calls.proofs.Served.{runs-length, calls-length, calls-at}
 use Rattle.listing.specs.Held.{HeldRight, Lists, rightsHeld, rightBytes, listing}
 use Rattle.listing.proofs.Listed.{HeldIn, lists-same, rights-listed, bytes-length, bytes-at, held-at-most}
 use Rattle.outcome.specs.Batch.{requestCount, refusalBy, batchRefusal, outcome, batchOut}

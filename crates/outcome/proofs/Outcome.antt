@@ -17,8 +17,8 @@ use Rattle.rules.specs.Record.{fresh, viewOf, intact, final, recordOf}
 use Rattle.rules.specs.Run.{runs, ends}
 use Rattle.rules.specs.History.{historyView, historyAnswers, history}
 use Rattle.rules.proofs.Agree.{fresh-agree, list-agree, list-replies}
-use Rattle.batch.specs.RequestBytes.{callsOf}
-use Rattle.batch.proofs.Served.{once, still-intact, runs-length, calls-length}
+use Rattle.calls.specs.RequestBytes.{callsOf}
+use Rattle.calls.proofs.Served.{once, still-intact, runs-length, calls-length}
 use Rattle.listing.specs.Held.{HeldRight, rightsHeld, listing}
 use Rattle.listing.specs.Work.{Known, listBytesIn}
 use Rattle.listing.proofs.Listed.{known, written-listing}

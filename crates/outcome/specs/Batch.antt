@@ -10,7 +10,7 @@ use Rattle.plant.specs.declared.Plant.{Plant}
 use Rattle.opening.specs.Reading.{openingChecks, readingOf}
 use Rattle.rules.specs.Rules.{Call}
 use Rattle.rules.specs.History.{historyView, historyAnswers, history}
-use Rattle.batch.specs.RequestBytes.{callsOf}
+use Rattle.calls.specs.RequestBytes.{callsOf}
 use Rattle.listing.specs.Held.{rightsHeld, listing}
 
 -- how many requests so many bytes are, five each

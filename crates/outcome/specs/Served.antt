@@ -13,7 +13,7 @@ use Rattle.rules.specs.Record.{fresh, reply, final}
 use Rattle.rules.specs.History.{historyAnswers, history, historyView}
 use Rattle.rules.specs.Rights.{Gives}
 use Rattle.rules.specs.Demand.{Demand3}
-use Rattle.batch.specs.RequestBytes.{callAt}
+use Rattle.calls.specs.RequestBytes.{callAt}
 use Rattle.listing.specs.Held.{HeldRight, Lists, rightsHeld}
 use Rattle.outcome.specs.Batch.{requestCount, batchRefusal, batchCalls, batchOut}
 

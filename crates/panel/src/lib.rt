@@ -6,7 +6,7 @@ ghost use lib.ListN.{length};
 ghost use Rattle.base.specs.Overlay.{overlay};
 ghost use Rattle.layout.specs.Header.{sectionPlace};
 ghost use Rattle.plant.specs.Checks.{plantRefusal};
-ghost use Rattle.batch.specs.RequestBytes.{callsOf};
+ghost use Rattle.calls.specs.RequestBytes.{callsOf};
 ghost use Rattle.outcome.specs.Batch.{refusalBy, outcome, batchRefusal, batchOut};
 use batch::serve;
 use held::write_held;

@@ -18,7 +18,7 @@ use Rattle.plant.specs.declared.Plant.{Plant}
 use Rattle.opening.specs.Reading.{readingOf}
 use Rattle.rules.specs.Rules.{Call}
 use Rattle.rules.specs.History.{historyView, historyAnswers, history, withCall}
-use Rattle.batch.proofs.Served.{calls-length}
+use Rattle.calls.proofs.Served.{calls-length}
 use Rattle.listing.specs.Held.{HeldRight, rightsHeld, rightBytes}
 use Rattle.listing.proofs.Listed.{bytes-length}
 use Rattle.outcome.specs.Batch.{requestCount, batchRefusal, batchCalls, outcome, batchOut}

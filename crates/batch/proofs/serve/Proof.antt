@@ -7,7 +7,7 @@ use Rattle.plant.proofs.Sound.{sound-law}
 use Rattle.plant.proofs.Valid.{valid}
 use Rattle.calls.proofs.Made.{none-made}
 use Rattle.calls.proofs.Grants.{none-granted}
-use Rattle.batch.proofs.Served.{Before, still-intact, next-record, next-out, first-record, first-out}
+use Rattle.calls.proofs.Served.{Before, still-intact, next-record, next-out, first-record, first-out}
 use borrow.Author.Needs.{needs}
 use Rattle.batch.proofs.serve.Statement.{statement}
 use Rattle.batch.proofs.serve.Tie as tie

@@ -19,9 +19,9 @@ use Rattle.rules.specs.Record.{fresh, viewOf, intact, stepped, recordOf}
 use Rattle.rules.specs.Run.{runs, ends, TestedOnce}
 use Rattle.rules.proofs.Agree.{fresh-agree, intact-true}
 use Rattle.rules.proofs.IntactKept.{tested-once}
 use Rattle.calls.specs.Lent.{Tables}
 use Rattle.calls.specs.Work.{Granted}
-use Rattle.batch.specs.RequestBytes.{callAt, callsOf}
+use Rattle.calls.specs.RequestBytes.{callAt, callsOf}
 
 -- one call more at the end of a list
 pub ends-more : (cs : List Call) (m : Monitor) (c : Call) → ends m (cs ++ (c ∷ [])) ≡ stepped ((ends m cs) .plant) (ends m cs) c
