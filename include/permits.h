@@ -30,9 +30,9 @@
  * caller's source or stored records no longer fit, the minor number when something is added, the patch number with every
  * other release. A number that rises sets those behind it to 0. */
 #define PERMITS_VERSION_MAJOR 0
-#define PERMITS_VERSION_MINOR 1
+#define PERMITS_VERSION_MINOR 2
 #define PERMITS_VERSION_PATCH 0
-#define PERMITS_VERSION "0.1.0"
+#define PERMITS_VERSION "0.2.0"
 
 #ifdef __cplusplus
 extern "C" {
