@@ -5,8 +5,8 @@ ghost use Prim.Native.Nat.{_+_, _/_, _<_, _≤_};
 ghost use lib.ListN.{length};
 ghost use Rattle.base.specs.Overlay.{overlay, Wrote};
 ghost use Rattle.listing.specs.Work.{Known, rightBytesIn, tankBytesIn, skidBytesIn, skidsBytesIn, listBytesIn};
+use gates::is_held;
 use plant::Right;
-use steps::is_held;
 
 fn put_right(out: &mut [u8], at: usize, skid: u8, tank: u8, right: u8) -> usize
     requires { ⌜ at + 3 ≤ length (now out) ⌝ }

@@ -7,8 +7,8 @@ ghost use Rattle.rules.specs.Rules.{start};
 ghost use Rattle.rules.specs.Record.{recordOf, withTask, intact};
 ghost use Rattle.calls.specs.Lent.{plantOf, callBy, Does};
 use calls::Counts;
+use gates::gate_at;
 use starts::start_at;
-use steps::gate_at;
 use steps::set_at;
 use steps::stop_at;
 

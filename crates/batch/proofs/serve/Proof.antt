@@ -31,7 +31,6 @@ loop-holds c =
       grants = none-granted (p .«task_rights») (p .skids) (valid p (sound-law p .0 (s .pre .0)) .counts .skids-fit);
     }
 
--- from a turn back to the loop's test, where its record stands
 turn-requires : tie.Need-turn-requires Inv-loop μ-loop
 turn-requires c κs =
     let l = c .before .before .before .before .before .before .before .before .before .before .before .before .before .before .before .before .before .before in
@@ -39,9 +38,13 @@ turn-requires c κs =
     let v = l .loop .inv in
     (still-intact (s .args .t1) (s .pre .0) (s .args .bytes .now) (l .loop .i) (v .state), (v .tables, v .grants))
 
+-- from behind a turn back to the request that it served, and to the loop's test before that
+abbrev served : tie.After-turn Inv-loop μ-loop → tie.After-request-at Inv-loop μ-loop
+served c = c .before .before .before .before .before .before .before .before .before .before .before .before .before .before .before .before .before
+
 slice-write-out : tie.Need-slice-write-out Inv-loop μ-loop
 slice-write-out c =
-    let t = c .before .before .before .before .before .before .before .before .before .before .before .before .before .before .before .before .before .before in
+    let t = served c .before in
     let l = t .before in
     let s = l .before .before .before in
     let i : l .loop .i < s .args .n = t .loop-test .taken in
@@ -52,14 +55,14 @@ slice-write-out c =
 -- the next index is at most n, which fits
 add-i : tie.Need-add-i Inv-loop μ-loop
 add-i c =
-    let t = c .before .before .before .before .before .before .before .before .before .before .before .before .before .before .before .before .before .before in
+    let t = served c .before in
     let s = t .before .before .before .before in
     let k : t .before .loop .i < s .args .n = t .loop-test .taken in
     search (needs, k, s .fits .n)
 
 loop-again : tie.Need-loop-again Inv-loop μ-loop
 loop-again c =
-    let r = c .before .before .before .before .before .before .before .before .before .before .before .before .before .before .before .before .before in
+    let r = served c in
     let t = r .before in
     let l = t .before in
     let s = l .before .before .before in

@@ -9,20 +9,23 @@ use Rattle.records.proofs.plant_from.Statement.{statement}
 use Rattle.records.proofs.plant_from.Tie as tie
 
 -- The later needs are too far from the start for `search`: k is the place where the parts of lattices, tanks and tasks have been taken.
+abbrev given : tie.After-part-of3 → tie.Start
+given k = k .before .before .before .before .before .before .before .before .before .before
+
 read-tanks-requires : tie.Need-read-tanks-requires
 read-tanks-requires c κs =
     let k = c .before .before .before .before .before .before in
-    (part-records _ (k .before .before .before .before .before .before .before .before .before .before .pre) tanks (omega arith) (k .before .part-of2 .ensures) (k .before .before .before .before .before .count-byte4 .ensures), omega arith)
+    (part-records _ (given k .pre) tanks (omega arith) (k .before .part-of2 .ensures) (k .before .before .before .before .before .count-byte4 .ensures), omega arith)
 
 read-tanks-requires-2 : tie.Need-read-tanks-requires-2
 read-tanks-requires-2 c κs =
     let k = c .before .before .before .before .before .before .before in
-    (part-records _ (k .before .before .before .before .before .before .before .before .before .before .pre) tanks (omega arith) (k .before .part-of2 .ensures) (k .before .before .before .before .before .count-byte4 .ensures), omega arith)
+    (part-records _ (given k .pre) tanks (omega arith) (k .before .part-of2 .ensures) (k .before .before .before .before .before .count-byte4 .ensures), omega arith)
 
 read-names-requires : tie.Need-read-names-requires
 read-names-requires c κs =
     let k = c .before .before .before .before .before .before .before .before in
-    part-records _ (k .before .before .before .before .before .before .before .before .before .before .pre) tasks (omega arith) (k .part-of3 .ensures) (k .before .before .before .before .count-byte5 .ensures)
+    part-records _ (given k .pre) tasks (omega arith) (k .part-of3 .ensures) (k .before .before .before .before .count-byte5 .ensures)
 
 cast-read-rights : tie.Need-cast-read-rights
 cast-read-rights c =
@@ -32,12 +35,12 @@ cast-read-rights c =
 read-rights-requires : tie.Need-read-rights-requires
 read-rights-requires c κs =
     let k = c .before .before .before .before .before .before .before .before .before in
-    part-records _ (k .before .before .before .before .before .before .before .before .before .before .pre) tasks (omega arith) (k .part-of3 .ensures) (k .before .before .before .before .count-byte5 .ensures)
+    part-records _ (given k .pre) tasks (omega arith) (k .part-of3 .ensures) (k .before .before .before .before .count-byte5 .ensures)
 
 part-of-requires-6 : tie.Need-part-of-requires-6
 part-of-requires-6 c κs =
     let k = c .before .before .before .before .before .before .before .before .before .before in
-    (k .before .before .before .before .before .before .before .before .before .before .pre, omega arith)
+    (given k .pre, omega arith)
 
 cast-read-skids : tie.Need-cast-read-skids
 cast-read-skids c =
@@ -47,7 +50,7 @@ cast-read-skids c =
 read-skids-requires : tie.Need-read-skids-requires
 read-skids-requires c κs =
     let k = c .before .before .before .before .before .before .before .before .before .before .before in
-    part-records _ (k .before .before .before .before .before .before .before .before .before .before .pre) skids (omega arith) (c .part-of6 .ensures) (k .before .before .before .count-byte6 .ensures)
+    part-records _ (given k .pre) skids (omega arith) (c .part-of6 .ensures) (k .before .before .before .count-byte6 .ensures)
 
 -- Each field is its reader's, of the section's part and count. The calls, from the last one back:
 returns : tie.Need-returns

@@ -78,11 +78,15 @@ returns-2 c =
     let w = by-choice (lent s) (passes s) (s .args .s) (s .args .t) (n .need-once .result) (there i .0) (there i .1) (n .need-once .ensures .0) (h .make-choices .ensures) (c .before .choose-row .ensures) in
     (refused-late (lent s) (passes s) (s .args .s) (s .args .t) (i .before .start-early .ensures) (i .if1 .left) w (c .if2 .taken), all-made (h .make-choices .ensures) (n .need-once .ensures .1))
 
+-- where the task is stored
+abbrev stores : tie.Else2 → tie.Else1
+stores c = c .before .before .before .before .before .before .before .before
+
 element-write-running : tie.Need-element-write-running
-element-write-running c = skid-fits (c .before .before .before .before .before .before .before .before)
+element-write-running c = skid-fits (stores c)
 
 put-row-requires : tie.Need-put-row-requires
-put-row-requires c κs = skid-fits (c .before .before .before .before .before .before .before .before .before)
+put-row-requires c κs = skid-fits (stores (c .before))
 
 returns-3 : tie.Need-returns-3
 returns-3 c =

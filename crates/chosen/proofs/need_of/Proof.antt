@@ -1,4 +1,4 @@
--- `starts::need_of` meets its contract: the groups are looked at one after the other. Assumes nothing.
+-- `chosen::need_of` meets its contract: the groups are looked at one after the other. Assumes nothing.
 use Prim.Native.Nat.{ℕ, _≤_, _-_}
 use mathlib.Core.Path.{subst, _∙_}
 use mathlib.Core.Logic.{⊎-elim}
@@ -6,8 +6,8 @@ use native.Mathlib.Nat.{le-antisymm}
 use borrow.Author.Needs.{needs}
 use Rattle.calls.specs.Work.{NeedIn}
 use Rattle.calls.proofs.Made.{need-starts, need-with, need-without}
-use Rattle.starts.proofs.need_of.Statement.{statement}
-use Rattle.starts.proofs.need_of.Tie as tie
+use Rattle.chosen.proofs.need_of.Statement.{statement}
+use Rattle.chosen.proofs.need_of.Tie as tie
 
 abbrev Inv-loop : tie.InvT-loop
 Inv-loop rights t groups n need₀ g₀ need g = (g ≤ n) × NeedIn rights t g need

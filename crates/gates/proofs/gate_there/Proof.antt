@@ -1,8 +1,8 @@
--- `steps::gate_there` meets its contract: the three tests are the definition's. Assumes nothing.
+-- `gates::gate_there` meets its contract: the three tests are the definition's. Assumes nothing.
 use Rattle.calls.proofs.Steps.{items-there}
 use borrow.Author.Needs.{needs}
-use Rattle.steps.proofs.gate_there.Statement.{statement}
-use Rattle.steps.proofs.gate_there.Tie as tie
+use Rattle.gates.proofs.gate_there.Statement.{statement}
+use Rattle.gates.proofs.gate_there.Tie as tie
 
 returns : tie.Need-returns
 returns c = items-there _ _ _ (rw (c .valid .ensures))

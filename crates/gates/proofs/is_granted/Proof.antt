@@ -1,7 +1,7 @@
--- `steps::is_granted` meets its contract: each half is the definition's. Assumes nothing.
+-- `gates::is_granted` meets its contract: each half is the definition's. Assumes nothing.
 use borrow.Author.Needs.{needs}
-use Rattle.steps.proofs.is_granted.Statement.{statement}
-use Rattle.steps.proofs.is_granted.Tie as tie
+use Rattle.gates.proofs.is_granted.Statement.{statement}
+use Rattle.gates.proofs.is_granted.Tie as tie
 
 returns : tie.Need-returns
 returns c = simp (c .mask .ensures, c .before .before .before .wide .ensures)

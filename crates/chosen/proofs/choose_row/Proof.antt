@@ -1,4 +1,4 @@
--- `starts::choose_row` meets its contract: the groups of the set are looked at one after the other. Assumes nothing.
+-- `chosen::choose_row` meets its contract: the groups of the set are looked at one after the other. Assumes nothing.
 use mathlib.Core.Path.{_≡_, refl}
 use mathlib.Core.Bool.{true}
 use Prim.Native.Nat.{_<_}
@@ -8,8 +8,8 @@ use borrow.Author.Needs.{needs}
 use Rattle.base.specs.Bits.{bit}
 use Rattle.calls.specs.Work.{madeAt}
 use Rattle.calls.proofs.Groups.{RowSoFar, none-yet, next-group, ends-27, becomes-28, stays, goes-down, all-seen}
-use Rattle.starts.proofs.choose_row.Statement.{statement}
-use Rattle.starts.proofs.choose_row.Tie as tie
+use Rattle.chosen.proofs.choose_row.Statement.{statement}
+use Rattle.chosen.proofs.choose_row.Tie as tie
 
 abbrev Inv-loop : tie.InvT-loop
 Inv-loop requirement levels made row₀ s t need number₀ rest₀ row number rest = RowSoFar (madeAt made) requirement levels s t need rest number row

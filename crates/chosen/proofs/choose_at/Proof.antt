@@ -1,4 +1,4 @@
--- `starts::choose_at` meets its contract: each step is the definition's. Assumes nothing.
+-- `chosen::choose_at` meets its contract: each step is the definition's. Assumes nothing.
 use mathlib.Core.Path.{_≡_}
 use mathlib.Core.Bool.{false}
 use Prim.Native.Nat.{_<_}
@@ -8,8 +8,8 @@ use borrow.Author.Tests.{eqb-false, eq-eqb, ne-eqb}
 use Rattle.calls.specs.Work.{wishIn}
 use Rattle.calls.proofs.Known.{known}
 use borrow.Author.Needs.{needs}
-use Rattle.starts.proofs.choose_at.Statement.{statement}
-use Rattle.starts.proofs.choose_at.Tie as tie
+use Rattle.chosen.proofs.choose_at.Statement.{statement}
+use Rattle.chosen.proofs.choose_at.Tie as tie
 
 returns : tie.Need-returns
 returns c =

@@ -1,10 +1,10 @@
--- `steps::is_held` meets its contract: each test is the definition's, in its order. Assumes nothing.
+-- `gates::is_held` meets its contract: each test is the definition's, in its order. Assumes nothing.
 use native.Mathlib.Omega.{arith}
 use borrow.Author.Tests.{eq-eqb, ne-eqb}
 use Rattle.calls.proofs.Known.{known}
 use borrow.Author.Needs.{needs}
-use Rattle.steps.proofs.is_held.Statement.{statement}
-use Rattle.steps.proofs.is_held.Tie as tie
+use Rattle.gates.proofs.is_held.Statement.{statement}
+use Rattle.gates.proofs.is_held.Tie as tie
 
 returns : tie.Need-returns
 returns c = simp (eq-eqb _ _ (c .if1 .taken))

@@ -1,8 +1,8 @@
--- `starts::need_once` meets its contract: the set is there, or is made and put there. Assumes nothing.
+-- `chosen::need_once` meets its contract: the set is there, or is made and put there. Assumes nothing.
 use borrow.Author.Needs.{needs}
 use Rattle.calls.proofs.Made.{need-put}
-use Rattle.starts.proofs.need_once.Statement.{statement}
-use Rattle.starts.proofs.need_once.Tie as tie
+use Rattle.chosen.proofs.need_once.Statement.{statement}
+use Rattle.chosen.proofs.need_once.Tie as tie
 
 returns : tie.Need-returns
 returns c =
