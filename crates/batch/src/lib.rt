@@ -8,7 +8,7 @@ ghost use Rattle.plant.specs.Checks.{plantRefusal};
 ghost use Rattle.rules.specs.Record.{fresh, recordOf};
 ghost use Rattle.rules.specs.Run.{runs, ends};
 ghost use Rattle.calls.specs.RequestBytes.{requestAt, callsOf};
-use calls::Counts;
+use calls::PlantCounts;
 use plant::Plant;
 use turns::turn;
 
@@ -46,7 +46,7 @@ pub fn serve(p: Plant, bytes: &[u8], n: usize, out: &mut [u8]) -> Parts
     let mut made = [254u8; 128];
     let mut needs = [0u16; 16];
     let mut granted = [0u8; 64];
-    let counts = Counts {
+    let counts = PlantCounts {
         lattices: p.lattices,
         requirements: p.requirements,
         groups: p.groups,

@@ -90,7 +90,7 @@ module _ (P : Plant) (q : plantRefusal true true P ≡ 0) where
         ∙ ap (overlay out₀ 0) (sym (ap (runs (fresh P)) (calls-more bytes i) ∙ runs-more (callsOf bytes i) (fresh P) (callAt bytes i)))
 
 -- what the loop knows before request i: the record and the answers so far are the run's, and what is kept beside the record is kept
-pub record Before (P : Plant) (bytes : List ℕ) (n : ℕ) (out₀ : List ℕ) (out levels running chosen made needs granted : List ℕ) (i : ℕ) : Type 0 where
+pub record Serving (P : Plant) (bytes : List ℕ) (n : ℕ) (out₀ : List ℕ) (out levels running chosen made needs granted : List ℕ) (i : ℕ) : Type 0 where
   pub at-most : i ≤ n
   pub size : length out ≡ length out₀
   pub state : recordOf P levels running chosen ≡ ends (fresh P) (callsOf bytes i)

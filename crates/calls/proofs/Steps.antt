@@ -21,8 +21,8 @@ use Rattle.rules.specs.declared.Monitor.{Monitor}
 use Rattle.rules.specs.Rules.{Call, set, stop, gate, unknown, skidOf, View, holds, conditions, refusal, acceptedAnswer, answer}
 use Rattle.rules.specs.Record.{viewOf, levelAt, fillFrom, changed, stepped, withLevels, withTask}
 use Rattle.rules.proofs.Accepted.{GateOk, gate-ok}
-use Rattle.calls.specs.declared.Counts.{Counts}
-use Rattle.calls.specs.Lent.{countsOf, Does, Passed, SetReads, StopReads, GateReads, GrantReads}
+use Rattle.calls.specs.declared.PlantCounts.{PlantCounts}
+use Rattle.calls.specs.Lent.{plantCounts, Does, Passed, SetReads, StopReads, GateReads, GrantReads}
 use Rattle.calls.specs.Work.{getRow, heldIn, grantedIn, taskKnown}
 use Rattle.calls.proofs.Rows.{row-same}
 use Rattle.calls.proofs.There.{no-right}
@@ -40,21 +40,21 @@ does m c z e l = record {
 }
 
 -- the counts of such a record
-module _ {n : Counts} {m : Monitor} (p : Passed n m) where
+module _ {n : PlantCounts} {m : Monitor} (p : Passed n m) where
   X : Valid (m .plant)
   X = plant-valid m (p .passes)
 
   pub skids-are : m .plant .skids ≡ n .skids
-  skids-are = ap (λ (x : Counts). x .skids) (p .counts)
+  skids-are = ap (λ (x : PlantCounts). x .skids) (p .counts)
 
   pub tasks-are : m .plant .tasks ≡ n .tasks
-  tasks-are = ap (λ (x : Counts). x .tasks) (p .counts)
+  tasks-are = ap (λ (x : PlantCounts). x .tasks) (p .counts)
 
   pub requirements-are : m .plant .requirements ≡ n .requirements
-  requirements-are = ap (λ (x : Counts). x .requirements) (p .counts)
+  requirements-are = ap (λ (x : PlantCounts). x .requirements) (p .counts)
 
   pub tanks-are : m .plant .tanks ≡ n .tanks
-  tanks-are = ap (λ (x : Counts). x .tanks) (p .counts)
+  tanks-are = ap (λ (x : PlantCounts). x .tanks) (p .counts)
 
   pub skids-fit : n .skids ≤ 8
   skids-fit = omega (arith, skids-are, X .counts .skids-fit)
@@ -69,7 +69,7 @@ module _ {n : Counts} {m : Monitor} (p : Passed n m) where
   tanks-fit = omega (arith, tanks-are, X .counts .tanks-fit)
 
 -- set
-module _ {n : Counts} {sizes lattice levels : List ℕ} {m : Monitor} (R : SetReads n sizes lattice levels m) where
+module _ {n : PlantCounts} {sizes lattice levels : List ℕ} {m : Monitor} (R : SetReads n sizes lattice levels m) where
   pub lattice-at : (d : ℕ) → d < n .requirements → getD lattice d 0 < 8
   lattice-at d l =
       let w = plant-valid m (R .passed .passes) in
@@ -84,7 +84,7 @@ module _ {n : Counts} {sizes lattice levels : List ℕ} {m : Monitor} (R : SetRe
       (rw (l, ← R .levels-are) (split (eqb r 0) (λ h. rw h) (λ h. rw h)))
 
 -- stop
-module _ {n : Counts} {running chosen : List ℕ} {m : Monitor} (R : StopReads n running chosen m) where
+module _ {n : PlantCounts} {running chosen : List ℕ} {m : Monitor} (R : StopReads n running chosen m) where
   pub stop-does : (s : ℕ) {r : ℕ} {running′ chosen′ : List ℕ} → r ≡ first (leb (n .skids) s gives 21 ∷ []) → running′ ≡ cond (eqb r 0) (ListN.set running s 255) running
       → chosen′ ≡ cond (eqb r 0) (fillFrom chosen (s * 8) (getRow (replicate 8 255)) 8) chosen → Does m (stop s) r (withTask m running′ chosen′)
   unfolding refusal conditions acceptedAnswer changed
@@ -94,11 +94,11 @@ module _ {n : Counts} {running chosen : List ℕ} {m : Monitor} (R : StopReads n
       (λ h. rw h)))
 
 -- gate: whether its items are there, and the number where one is not
-gate-tests : {n : Counts} (s o r : ℕ) (P : Plant) (vs : ℕ → View) → countsOf P ≡ n → refusal P vs (gate s o r) ≡ first (leb (n .skids) s gives 21 ∷ leb (n .tanks) o gives 29 ∷ leb rights r gives 30 ∷ [])
+gate-tests : {n : PlantCounts} (s o r : ℕ) (P : Plant) (vs : ℕ → View) → plantCounts P ≡ n → refusal P vs (gate s o r) ≡ first (leb (n .skids) s gives 21 ∷ leb (n .tanks) o gives 29 ∷ leb rights r gives 30 ∷ [])
 unfolding refusal conditions
-gate-tests s o r P vs h = rw (ap (λ (x : Counts). x .skids) h, ap (λ (x : Counts). x .tanks) h)
+gate-tests s o r P vs h = rw (ap (λ (x : PlantCounts). x .skids) h, ap (λ (x : PlantCounts). x .tanks) h)
 
-pub items-there : {n : Counts} (s o r : ℕ) {x : Bool} → x ≡ (ltb s (n .skids) && ltb o (n .tanks)) && validRight r → (P : Plant) (vs : ℕ → View) → countsOf P ≡ n → x ≡ eqb (refusal P vs (gate s o r)) 0
+pub items-there : {n : PlantCounts} (s o r : ℕ) {x : Bool} → x ≡ (ltb s (n .skids) && ltb o (n .tanks)) && validRight r → (P : Plant) (vs : ℕ → View) → plantCounts P ≡ n → x ≡ eqb (refusal P vs (gate s o r)) 0
 items-there {n} s o r e P vs h = e ∙ sym (rw (gate-tests s o r P vs h)
     (split (ltb s (n .skids)) (λ a. rw (lt-leb _ _ (ltb-true _ _ a), a)
     (split (ltb o (n .tanks)) (λ b. rw (lt-leb _ _ (ltb-true _ _ b), b)
@@ -106,7 +106,7 @@ items-there {n} s o r e P vs h = e ∙ sym (rw (gate-tests s o r P vs h)
     (λ b. rw (le-leb _ _ (ltb-false _ _ b), b))))
     (λ a. rw (le-leb _ _ (ltb-false _ _ a), a))))
 
-pub item-missing : {n : Counts} (s o r : ℕ) {x : ℕ} → x ≡ cond (leb (n .skids) s) 21 (cond (leb (n .tanks) o) 29 30) → (P : Plant) (vs : ℕ → View) → countsOf P ≡ n → refusal P vs (gate s o r) ≢ 0 → x ≡ refusal P vs (gate s o r)
+pub item-missing : {n : PlantCounts} (s o r : ℕ) {x : ℕ} → x ≡ cond (leb (n .skids) s) 21 (cond (leb (n .tanks) o) 29 30) → (P : Plant) (vs : ℕ → View) → plantCounts P ≡ n → refusal P vs (gate s o r) ≢ 0 → x ≡ refusal P vs (gate s o r)
 item-missing {n} s o r e P vs h z = e ∙ sym (rw (gate-tests s o r P vs h)
     (split (leb (n .skids) s) (λ a. rw a)
     (λ a. rw a (split (leb (n .tanks) o) (λ b. rw b)
@@ -134,7 +134,7 @@ module _ (m : Monitor) (s o r : ℕ) where
   gate-says-no z e = record { answers = sym (rw (z, e)); leaves = gate-leaves }
 
 -- the skid and the tank are there, and the right is held by the record exactly where the rules say so
-module _ {n : Counts} {group rights running chosen : List ℕ} {m : Monitor} (R : GateReads n group rights running chosen m) (s o r : ℕ)
+module _ {n : PlantCounts} {group rights running chosen : List ℕ} {m : Monitor} (R : GateReads n group rights running chosen m) (s o r : ℕ)
     (z : refusal (m .plant) (viewOf (m .plant) m) (gate s o r) ≡ 0) where
   k : GateOk (m .plant) (viewOf (m .plant) m) s o r
   k = gate-ok (m .plant) (viewOf (m .plant) m) s o r z
@@ -152,7 +152,7 @@ module _ {n : Counts} {group rights running chosen : List ℕ} {m : Monitor} (R 
   pub held-told : heldIn group rights running chosen s o r ≡ holds (m .plant) (viewOf (m .plant) m s) o r
   held-told = rw (← R .group-is, ← R .rights-are, ← R .running-is, ← R .chosen-is) (held-same m (R .passed .passes) s o r (k .skid) (k .tank))
 
-module _ {n : Counts} {group acceptedAnswer chosen : List ℕ} {m : Monitor} (R : GrantReads n group acceptedAnswer chosen m) (s o r : ℕ)
+module _ {n : PlantCounts} {group acceptedAnswer chosen : List ℕ} {m : Monitor} (R : GrantReads n group acceptedAnswer chosen m) (s o r : ℕ)
     (z : refusal (m .plant) (viewOf (m .plant) m) (gate s o r) ≡ 0) where
   ok : GateOk (m .plant) (viewOf (m .plant) m) s o r
   ok = gate-ok (m .plant) (viewOf (m .plant) m) s o r z

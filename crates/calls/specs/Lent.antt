@@ -11,15 +11,16 @@ use Rattle.rules.specs.declared.Monitor.{Monitor}
 use Rattle.rules.specs.Rules.{Call, answer}
 use Rattle.rules.specs.Rules as call
 use Rattle.rules.specs.Record.{viewOf, intact, stepped}
-use Rattle.calls.specs.declared.Counts.{Counts}
+use Rattle.calls.specs.declared.PlantCounts.{PlantCounts}
 use Rattle.calls.specs.Work.{Needed, Granted}
 
-abbrev pub countsOf : Plant → Counts
-countsOf P = record { lattices = P .lattices; requirements = P .requirements; groups = P .groups; tanks = P .tanks; tasks = P .tasks; skids = P .skids }
+-- the counts of a plant, as they go from function to function
+abbrev pub plantCounts : Plant → PlantCounts
+plantCounts P = record { lattices = P .lattices; requirements = P .requirements; groups = P .groups; tanks = P .tanks; tasks = P .tasks; skids = P .skids }
 
 -- the plant whose counts and arrays these are, in the order of its fields
-abbrev pub plantOf : Counts → List ℕ → List ℕ → List ℕ → List ℕ → List ℕ → List ℕ → List ℕ → List ℕ → List ℕ → Plant
-plantOf n sizes sets lattice requirement group level names rights may = record {
+abbrev pub lentPlant : PlantCounts → List ℕ → List ℕ → List ℕ → List ℕ → List ℕ → List ℕ → List ℕ → List ℕ → List ℕ → Plant
+lentPlant n sizes sets lattice requirement group level names rights may = record {
   lattices = n .lattices;
   requirements = n .requirements;
   groups = n .groups;
@@ -53,22 +54,23 @@ pub record Does (m : Monitor) (c : Call) (number : ℕ) (left : Monitor) : Type 
 
 -- A record that passes test 20 and has these counts. A call to which a few parts are lent promises the same for every record that has them: it
 -- reads no others.
-pub record Passed (n : Counts) (m : Monitor) : Type 0 where
+pub record Passed (n : PlantCounts) (m : Monitor) : Type 0 where
   pub passes : intact (m .plant) m ≡ true
-  pub counts : countsOf (m .plant) ≡ n
+  pub counts : plantCounts (m .plant) ≡ n
 
-pub record SetReads (n : Counts) (sizes lattice levels : List ℕ) (m : Monitor) : Type 0 where
+-- what a set, a stop and a gate read of it
+pub record SetReads (n : PlantCounts) (sizes lattice levels : List ℕ) (m : Monitor) : Type 0 where
   pub passed : Passed n m
   pub sizes-are : m .plant .«lattice_sizes» ≡ sizes
   pub lattice-is : m .plant .«requirement_lattice» ≡ lattice
   pub levels-are : m .levels ≡ levels
 
-pub record StopReads (n : Counts) (running chosen : List ℕ) (m : Monitor) : Type 0 where
+pub record StopReads (n : PlantCounts) (running chosen : List ℕ) (m : Monitor) : Type 0 where
   pub passed : Passed n m
   pub running-is : m .running ≡ running
   pub chosen-is : m .chosen ≡ chosen
 
-pub record GateReads (n : Counts) (group rights running chosen : List ℕ) (m : Monitor) : Type 0 where
+pub record GateReads (n : PlantCounts) (group rights running chosen : List ℕ) (m : Monitor) : Type 0 where
   pub passed : Passed n m
   pub group-is : m .plant .«tank_group» ≡ group
   pub rights-are : m .plant .«task_rights» ≡ rights
@@ -76,7 +78,7 @@ pub record GateReads (n : Counts) (group rights running chosen : List ℕ) (m : 
   pub chosen-is : m .chosen ≡ chosen
 
 -- the same for a gate in a list, which reads the rights granted in place of the running task and its rights
-pub record GrantReads (n : Counts) (group granted chosen : List ℕ) (m : Monitor) : Type 0 where
+pub record GrantReads (n : PlantCounts) (group granted chosen : List ℕ) (m : Monitor) : Type 0 where
   pub passed : Passed n m
   pub group-is : m .plant .«tank_group» ≡ group
   pub chosen-is : m .chosen ≡ chosen

@@ -8,22 +8,22 @@ ghost use lib.ListN.{getD};
 ghost use Rattle.plant.specs.declared.Plant.{Plant};
 ghost use Rattle.rules.specs.declared.Monitor.{Monitor};
 ghost use Rattle.rules.specs.Rules.{View, gate, refusal};
-ghost use Rattle.calls.specs.Lent.{countsOf, Does, GateReads, GrantReads};
+ghost use Rattle.calls.specs.Lent.{plantCounts, Does, GateReads, GrantReads};
 ghost use Rattle.calls.specs.Work.{taskKnown, grantedIn, heldIn};
-use calls::Counts;
+use calls::PlantCounts;
 use plant::Right;
 use sets::wide;
 
 // Whether the skid, the tank and the right of a gate are there. The three are tested at once, so that a gate that is not refused asks once.
-fn gate_there(counts: Counts, s: u8, o: u8, r: u8) -> bool
-    ensures { λ x. ⌜ ((P : Plant) (vs : ℕ → View) → countsOf P ≡ counts → x ≡ eqb (refusal P vs (gate s o r)) 0) ⌝ }
+fn gate_there(counts: PlantCounts, s: u8, o: u8, r: u8) -> bool
+    ensures { λ x. ⌜ ((P : Plant) (vs : ℕ → View) → plantCounts P ≡ counts → x ≡ eqb (refusal P vs (gate s o r)) 0) ⌝ }
 {
     (s < counts.skids) & (o < counts.tanks) & Right::valid(r)
 }
 
 // The number of a gate that is refused: 21, 29 or 30.
-fn gate_refusal(counts: Counts, s: u8, o: u8, r: u8) -> u8
-    ensures { λ x. ⌜ ((P : Plant) (vs : ℕ → View) → countsOf P ≡ counts → refusal P vs (gate s o r) ≢ 0 → x ≡ refusal P vs (gate s o r)) ⌝ }
+fn gate_refusal(counts: PlantCounts, s: u8, o: u8, r: u8) -> u8
+    ensures { λ x. ⌜ ((P : Plant) (vs : ℕ → View) → plantCounts P ≡ counts → refusal P vs (gate s o r) ≢ 0 → x ≡ refusal P vs (gate s o r)) ⌝ }
 {
     if counts.skids <= s {
         return 21;
@@ -36,7 +36,7 @@ fn gate_refusal(counts: Counts, s: u8, o: u8, r: u8) -> u8
 
 // Gate by the record: 21, 29, 30; 0 where the skid holds the right, and else 33.
 pub fn gate_at<'a, 'b>(
-    counts: Counts,
+    counts: PlantCounts,
     group: &'a [u8; 64],
     rights: &'a [u8; 128],
     running: &'b [u8; 8],
@@ -60,7 +60,7 @@ pub fn gate_at<'a, 'b>(
 
 // The same in a list, by the rights granted.
 pub fn gate_granted<'a, 'b>(
-    counts: Counts,
+    counts: PlantCounts,
     group: &'a [u8; 64],
     granted: &'b [u8; 64],
     chosen: &'b [u8; 64],

@@ -20,7 +20,7 @@ use Rattle.rules.specs.Record.{viewOf, intact}
 use Rattle.calls.proofs.Ready.{plant-valid, groups-there, tasks-known}
 use Rattle.calls.proofs.Views.{held-same}
 use Rattle.listing.proofs.Bound.{list-short}
-use Rattle.listing.specs.Held.{HeldRight, Before, Lists, rightAt, rightsOn, rightsOf, rightsHeld, rightBytes, listing}
+use Rattle.listing.specs.Held.{HeldRight, Before, Lists, rightAt, rightsOn, rightsBy, rightsHeld, rightBytes, listing}
 use Rattle.listing.specs.Work.{Known, rightBytesIn, skidsBytesIn, listBytesIn}
 
 abbrev entry : ℕ → ℕ → ℕ → HeldRight
@@ -81,7 +81,7 @@ module _ (P : Plant) (vs : ℕ → View) where
   on-in : (s o r : ℕ) → r < 3 → holds P (vs s) o r ≡ true → In (entry s o r) (rightsOn P vs s o)
   on-in s o r l h = part-in (numbered s o) (entry s o r) 3 r l (rw (number-at r l) (one-at s o r h))
 
-  in-of : (s : ℕ) (x : HeldRight) → In x (rightsOf P vs s) → (o : ℕ) × ((o < P .tanks) × In x (rightsOn P vs s o))
+  in-of : (s : ℕ) (x : HeldRight) → In x (rightsBy P vs s) → (o : ℕ) × ((o < P .tanks) × In x (rightsOn P vs s o))
   in-of s x i = in-part (rightsOn P vs s) x (P .tanks) i
 
   on-rising : (s o : ℕ) → Rising Before (rightsOn P vs s o)
@@ -97,7 +97,7 @@ module _ (P : Plant) (vs : ℕ → View) where
         ),
       ))
 
-  of-rising : (s : ℕ) → Rising Before (rightsOf P vs s)
+  of-rising : (s : ℕ) → Rising Before (rightsBy P vs s)
   of-rising s = rising-collect Before (rightsOn P vs s) (P .tanks) (λ o l. on-rising s o)
       (λ i j a b x y u v.
       let p = in-on s i x u in
@@ -107,7 +107,7 @@ module _ (P : Plant) (vs : ℕ → View) where
         inl (omega (arith, ap (λ (h : HeldRight). h .tank) (p .1 .1 .0), ap (λ (h : HeldRight). h .tank) (q .1 .1 .0))),
       ))
 
-  skid-is : (s : ℕ) (x : HeldRight) → In x (rightsOf P vs s) → x .skid ≡ s
+  skid-is : (s : ℕ) (x : HeldRight) → In x (rightsBy P vs s) → x .skid ≡ s
   skid-is s x i = let p = in-of s x i in ap (λ (h : HeldRight). h .skid) (in-on s (p .0) x (p .1 .1) .1 .1 .0)
 
   moved : {s s′ o o′ r r′ : ℕ} → s′ ≡ s → o′ ≡ o → r′ ≡ r → holds P (vs s′) o′ r′ ≡ true → holds P (vs s) o r ≡ true
@@ -118,17 +118,17 @@ module _ (P : Plant) (vs : ℕ → View) where
   rights-listed = record {
     exactly = λ s o r. (
       λ i.
-          let p = in-part (rightsOf P vs) (entry s o r) (P .skids) i in
+          let p = in-part (rightsBy P vs) (entry s o r) (P .skids) i in
           let q = in-of (p .0) (entry s o r) (p .1 .1) in
           let u = in-on (p .0) (q .0) (entry s o r) (q .1 .1) in
           let a : s ≡ p .0 = ap (λ (h : HeldRight). h .skid) (u .1 .1 .0) in
           let b : o ≡ q .0 = ap (λ (h : HeldRight). h .tank) (u .1 .1 .0) in
           let c : r ≡ u .0 = ap (λ (h : HeldRight). h .right) (u .1 .1 .0) in
           record { skid = omega (arith, p .1 .0); tank = omega (arith, q .1 .0); right = omega (arith, u .1 .0); held = moved (sym a) (sym b) (sym c) (u .1 .1 .1) },
-      λ h. part-in (rightsOf P vs) (entry s o r) (P .skids) s (h .skid)
+      λ h. part-in (rightsBy P vs) (entry s o r) (P .skids) s (h .skid)
           (part-in (rightsOn P vs s) (entry s o r) (P .tanks) o (h .tank) (on-in s o r (h .right) (h .held))),
     );
-    rising = rising-collect Before (rightsOf P vs) (P .skids) (λ s l. of-rising s) (λ i j a b x y u v. inl (omega (arith, skid-is i x u, skid-is j y v)));
+    rising = rising-collect Before (rightsBy P vs) (P .skids) (λ s l. of-rising s) (λ i j a b x y u v. inl (omega (arith, skid-is i x u, skid-is j y v)));
   }
 
 -- the bytes of a list made of parts
@@ -178,7 +178,7 @@ module _ (m : Monitor) (i : intact (m .plant) m ≡ true) where
       collect-same _ _ (P .skids) (λ s a.
       collect-same _ _ (P .tanks) (λ o b. collect-same _ _ 3 (λ i c. one-same s o (getD allRights i 0) a b) ∙ sym (bytes-collect (numbered P vs s o) 3))
       ∙ sym (bytes-collect (rightsOn P vs s) (P .tanks)))
-      ∙ sym (bytes-collect (rightsOf P vs) (P .skids))
+      ∙ sym (bytes-collect (rightsBy P vs) (P .skids))
 
   pub written-listing : listBytesIn (P .«tank_group») (P .«task_rights») (m .running) (m .chosen) (P .skids) (P .tanks) ≡ listing (rightsHeld P vs)
   written-listing =

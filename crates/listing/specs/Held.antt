@@ -35,11 +35,11 @@ module _ (P : Plant) (vs : ℕ → View) where
   abbrev pub rightsOn : ℕ → ℕ → List HeldRight
   rightsOn s o = collect (λ i. rightAt s o (getD allRights i 0)) (length allRights)
 
-  abbrev pub rightsOf : ℕ → List HeldRight
-  rightsOf s = collect (rightsOn s) (P .tanks)
+  abbrev pub rightsBy : ℕ → List HeldRight
+  rightsBy s = collect (rightsOn s) (P .tanks)
 
   unfoldable pub rightsHeld : List HeldRight
-  rightsHeld = collect rightsOf (P .skids)
+  rightsHeld = collect rightsBy (P .skids)
 
 -- Three bytes for each right: skid, tank, right.
 unfoldable pub rightBytes : List HeldRight → List ℕ

@@ -6,7 +6,7 @@ ghost use mathlib.Core.Bool.{true};
 ghost use Rattle.rules.specs.Record.{fresh, intact};
 ghost use Rattle.calls.specs.Lent.{callBy};
 ghost use Rattle.monitor.specs.Calls.{stepOf, openedOf};
-use calls::Counts;
+use calls::PlantCounts;
 use intact::is_intact;
 use plant::Plant;
 use rules::Monitor;
@@ -87,7 +87,7 @@ pub fn call_tested(m: Monitor, kind: u8, a: u8, b: u8, c: u8, d: u8) -> Answered
         answer: 0,
         monitor: m,
     };
-    let counts = Counts {
+    let counts = PlantCounts {
         lattices: p.lattices,
         requirements: p.requirements,
         groups: p.groups,

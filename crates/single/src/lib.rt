@@ -5,8 +5,8 @@ ghost use mathlib.Core.Bool.{true};
 ghost use Rattle.rules.specs.declared.Monitor.{Monitor};
 ghost use Rattle.rules.specs.Rules.{start};
 ghost use Rattle.rules.specs.Record.{recordOf, withTask, intact};
-ghost use Rattle.calls.specs.Lent.{plantOf, callBy, Does};
-use calls::Counts;
+ghost use Rattle.calls.specs.Lent.{lentPlant, callBy, Does};
+use calls::PlantCounts;
 use gates::gate_at;
 use starts::start_at;
 use steps::set_at;
@@ -14,7 +14,7 @@ use steps::stop_at;
 
 // A start by itself makes its table of choices and keeps it for nobody.
 fn start_alone<'a>(
-    counts: Counts,
+    counts: PlantCounts,
     sizes: &'a [u8; 8],
     sets: &'a [u16; 128],
     lattice: &'a [u8; 8],
@@ -31,7 +31,7 @@ fn start_alone<'a>(
     t: u8,
 ) -> u8
     ghost { Monitor }
-    requires { λ m. ⌜ recordOf (plantOf counts (now sizes) (now sets) (now lattice) (now requirement) (now group) (now level) (now names)
+    requires { λ m. ⌜ recordOf (lentPlant counts (now sizes) (now sets) (now lattice) (now requirement) (now group) (now level) (now names)
         (now rights) (now may)) (now levels) (now running) (now chosen) ≡ m ⌝ }
     requires { λ m. ⌜ intact (m .plant) m ≡ true ⌝ }
     ensures { λ m r. ⌜ Does m (start s t) r (withTask m (now (running .exit)) (now (chosen .exit))) ⌝ }
@@ -61,7 +61,7 @@ fn start_alone<'a>(
 
 // One request by itself: 0 set, 1 start, 2 stop, 3 gate, and 32 for another.
 pub fn call_at<'a>(
-    counts: Counts,
+    counts: PlantCounts,
     sizes: &'a [u8; 8],
     sets: &'a [u16; 128],
     lattice: &'a [u8; 8],
@@ -81,7 +81,7 @@ pub fn call_at<'a>(
     d: u8,
 ) -> u8
     ghost { Monitor }
-    requires { λ m. ⌜ recordOf (plantOf counts (now sizes) (now sets) (now lattice) (now requirement) (now group) (now level) (now names)
+    requires { λ m. ⌜ recordOf (lentPlant counts (now sizes) (now sets) (now lattice) (now requirement) (now group) (now level) (now names)
         (now rights) (now may)) (now levels) (now running) (now chosen) ≡ m ⌝ }
     requires { λ m. ⌜ intact (m .plant) m ≡ true ⌝ }
     ensures { λ m r. ⌜ Does m (callBy kind a b c d) r (recordOf (m .plant) (now (levels .exit)) (now (running .exit)) (now (chosen .exit))) ⌝ }

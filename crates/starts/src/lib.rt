@@ -6,9 +6,9 @@ ghost use Rattle.base.specs.Chain.{first};
 ghost use Rattle.rules.specs.declared.Monitor.{Monitor};
 ghost use Rattle.rules.specs.Rules.{start};
 ghost use Rattle.rules.specs.Record.{recordOf, withTask, intact};
-ghost use Rattle.calls.specs.Lent.{plantOf, Does, Tables};
+ghost use Rattle.calls.specs.Lent.{lentPlant, Does, Tables};
 ghost use Rattle.calls.specs.Work.{earlyTests};
-use calls::Counts;
+use calls::PlantCounts;
 use choices::make_choices;
 use chosen::choose_row;
 use chosen::need_once;
@@ -36,7 +36,7 @@ fn start_early(may: &[u16; 8], running: &[u8; 8], skids: u8, tasks: u8, s: u8, t
 
 // Start: 21 to 28, or the task runs and its groups get their choice, the skid's other groups 255.
 pub fn start_at<'a>(
-    counts: Counts,
+    counts: PlantCounts,
     sizes: &'a [u8; 8],
     sets: &'a [u16; 128],
     lattice: &'a [u8; 8],
@@ -55,7 +55,7 @@ pub fn start_at<'a>(
     t: u8,
 ) -> u8
     ghost { Monitor }
-    requires { λ m. ⌜ recordOf (plantOf counts (now sizes) (now sets) (now lattice) (now requirement) (now group) (now level) (now names)
+    requires { λ m. ⌜ recordOf (lentPlant counts (now sizes) (now sets) (now lattice) (now requirement) (now group) (now level) (now names)
         (now rights) (now may)) (now levels) (now running) (now chosen) ≡ m ⌝ }
     requires { λ m. ⌜ intact (m .plant) m ≡ true ⌝ }
     requires { λ m. ⌜ Tables (m .plant) (now made) (now needs) ⌝ }

@@ -7,7 +7,7 @@ ghost use Rattle.rules.specs.Rules.{set, stop};
 ghost use Rattle.rules.specs.Record.{fillFrom, withLevels, withTask};
 ghost use Rattle.calls.specs.Lent.{Does, SetReads, StopReads};
 ghost use Rattle.calls.specs.Work.{rightsIn, getRow};
-use calls::Counts;
+use calls::PlantCounts;
 use sets::wide;
 
 // The number of the first item that is not there: 21 for the skid, or that of the second or the third. `skid` and `other` say that the skid and
@@ -26,7 +26,7 @@ fn missing(skid: bool, other: bool, second: u8, third: u8) -> u8
 
 // Set: 21 to 24, or the level is stored.
 pub fn set_at<'a>(
-    counts: Counts,
+    counts: PlantCounts,
     sizes: &'a [u8; 8],
     lattice: &'a [u8; 8],
     levels: &mut [u8; 1024],
@@ -73,7 +73,7 @@ pub fn grant_row<'a>(granted: &mut [u8; 64], rights: &'a [u8; 128], s: usize, t:
 }
 
 // Stop: 21, or the skid runs nothing and has no tank.
-pub fn stop_at(counts: Counts, running: &mut [u8; 8], chosen: &mut [u8; 64], s: u8) -> u8
+pub fn stop_at(counts: PlantCounts, running: &mut [u8; 8], chosen: &mut [u8; 64], s: u8) -> u8
     requires { ⌜ ((m : Monitor) × StopReads counts (now running) (now chosen) m) ⌝ }
     ensures { λ r. ⌜ ((m : Monitor) → StopReads counts (now (running .entry)) (now (chosen .entry)) m
         → Does m (stop s) r (withTask m (now (running .exit)) (now (chosen .exit)))) ⌝ }

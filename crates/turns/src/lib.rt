@@ -4,9 +4,9 @@ ghost use mathlib.Core.Path.{_≡_};
 ghost use mathlib.Core.Bool.{true};
 ghost use Rattle.rules.specs.declared.Monitor.{Monitor};
 ghost use Rattle.rules.specs.Record.{recordOf, intact};
-ghost use Rattle.calls.specs.Lent.{plantOf, callBy, Does, Tables};
+ghost use Rattle.calls.specs.Lent.{lentPlant, callBy, Does, Tables};
 ghost use Rattle.calls.specs.Work.{Granted};
-use calls::Counts;
+use calls::PlantCounts;
 use gates::gate_granted;
 use starts::start_at;
 use steps::grant_row;
@@ -17,7 +17,7 @@ use steps::stop_at;
 // One request of a list. `made` has the table of choices and `needs` the groups of each task, once a start made them, and `granted` the rights of the
 // running tasks.
 pub fn turn<'a>(
-    counts: Counts,
+    counts: PlantCounts,
     sizes: &'a [u8; 8],
     sets: &'a [u16; 128],
     lattice: &'a [u8; 8],
@@ -40,7 +40,7 @@ pub fn turn<'a>(
     d: u8,
 ) -> u8
     ghost { Monitor }
-    requires { λ m. ⌜ recordOf (plantOf counts (now sizes) (now sets) (now lattice) (now requirement) (now group) (now level) (now names)
+    requires { λ m. ⌜ recordOf (lentPlant counts (now sizes) (now sets) (now lattice) (now requirement) (now group) (now level) (now names)
         (now rights) (now may)) (now levels) (now running) (now chosen) ≡ m ⌝ }
     requires { λ m. ⌜ intact (m .plant) m ≡ true ⌝ }
     requires { λ m. ⌜ Tables (m .plant) (now made) (now needs) ⌝ }

@@ -7,13 +7,13 @@ use Rattle.plant.proofs.Sound.{sound-law}
 use Rattle.plant.proofs.Valid.{valid}
 use Rattle.calls.proofs.Made.{none-made}
 use Rattle.calls.proofs.Grants.{none-granted}
-use Rattle.calls.proofs.Served.{Before, still-intact, next-record, next-out, first-record, first-out}
+use Rattle.calls.proofs.Served.{Serving, still-intact, next-record, next-out, first-record, first-out}
 use borrow.Author.Needs.{needs}
 use Rattle.batch.proofs.serve.Statement.{statement}
 use Rattle.batch.proofs.serve.Tie as tie
 
 abbrev Inv-loop : tie.InvT-loop
-Inv-loop bytes n out₀ p levels₀ running₀ chosen₀ made₀ needs₀ granted₀ counts i₀ out levels running chosen made needs granted i = Before p bytes n out₀ out levels running chosen made needs granted i
+Inv-loop bytes n out₀ p levels₀ running₀ chosen₀ made₀ needs₀ granted₀ counts i₀ out levels running chosen made needs granted i = Serving p bytes n out₀ out levels running chosen made needs granted i
 
 abbrev μ-loop : tie.MeasureT-loop
 μ-loop bytes n out₀ p levels₀ running₀ chosen₀ made₀ needs₀ granted₀ counts i₀ out levels running chosen made needs granted i = n - i
@@ -39,12 +39,12 @@ turn-requires c κs =
     (still-intact (s .args .t1) (s .pre .0) (s .args .bytes .now) (l .loop .i) (v .state), (v .tables, v .grants))
 
 -- from behind a turn back to the request that it served, and to the loop's test before that
-abbrev served : tie.After-turn Inv-loop μ-loop → tie.After-request-at Inv-loop μ-loop
-served c = c .before .before .before .before .before .before .before .before .before .before .before .before .before .before .before .before .before
+abbrev request : tie.After-turn Inv-loop μ-loop → tie.After-request-at Inv-loop μ-loop
+request c = c .before .before .before .before .before .before .before .before .before .before .before .before .before .before .before .before .before
 
 slice-write-out : tie.Need-slice-write-out Inv-loop μ-loop
 slice-write-out c =
-    let t = served c .before in
+    let t = request c .before in
     let l = t .before in
     let s = l .before .before .before in
     let i : l .loop .i < s .args .n = t .loop-test .taken in
@@ -55,14 +55,14 @@ slice-write-out c =
 -- the next index is at most n, which fits
 add-i : tie.Need-add-i Inv-loop μ-loop
 add-i c =
-    let t = served c .before in
+    let t = request c .before in
     let s = t .before .before .before .before in
     let k : t .before .loop .i < s .args .n = t .loop-test .taken in
     search (needs, k, s .fits .n)
 
 loop-again : tie.Need-loop-again Inv-loop μ-loop
 loop-again c =
-    let r = served c in
+    let r = request c in
     let t = r .before in
     let l = t .before in
     let s = l .before .before .before in

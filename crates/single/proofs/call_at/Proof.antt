@@ -4,7 +4,7 @@ use native.Mathlib.Omega.{arith}
 use borrow.Author.Tests.{ne-eqb}
 use Rattle.rules.specs.declared.Monitor.{Monitor}
 use Rattle.rules.specs.Record.{recordOf}
-use Rattle.calls.specs.Lent.{plantOf, Passed, SetReads, StopReads, GateReads}
+use Rattle.calls.specs.Lent.{lentPlant, Passed, SetReads, StopReads, GateReads}
 use Rattle.calls.proofs.Steps.{unknown-does}
 use borrow.Author.Needs.{needs}
 use Rattle.single.proofs.call_at.Statement.{statement}
@@ -14,7 +14,7 @@ use Rattle.single.proofs.call_at.Tie as tie
 abbrev lent : tie.Start → Monitor
 lent s =
     let a = s .args in
-    recordOf (plantOf (a .counts) (a .sizes .now) (a .sets .now) (a .lattice .now) (a .requirement .now) (a .group .now) (a .level .now) (a .names .now) (a .rights .now) (a .may .now)) (a .levels .now) (a .running .now) (a .chosen .now)
+    recordOf (lentPlant (a .counts) (a .sizes .now) (a .sets .now) (a .lattice .now) (a .requirement .now) (a .group .now) (a .level .now) (a .names .now) (a .rights .now) (a .may .now)) (a .levels .now) (a .running .now) (a .chosen .now)
 
 passed : (s : tie.Start) → Passed (s .args .counts) (lent s)
 passed s = record { passes = s .pre; counts = refl }

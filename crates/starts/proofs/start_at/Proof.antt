@@ -7,7 +7,7 @@ use Rattle.plant.specs.Valid.{Valid}
 use Rattle.rules.specs.declared.Monitor.{Monitor}
 use Rattle.rules.specs.Record.{recordOf, intact}
 use Rattle.choice.specs.Table.{groupChoice}
-use Rattle.calls.specs.Lent.{plantOf}
+use Rattle.calls.specs.Lent.{lentPlant}
 use Rattle.calls.specs.Work.{needsIn, RowDone}
 use Rattle.calls.proofs.Ready.{plant-valid, links-there, groups-counted, levels-there}
 use Rattle.calls.proofs.Made.{all-made, reached, by-choice}
@@ -20,7 +20,7 @@ use Rattle.starts.proofs.start_at.Tie as tie
 abbrev lent : tie.Start → Monitor
 lent s =
     let a = s .args in
-    recordOf (plantOf (a .counts) (a .sizes .now) (a .sets .now) (a .lattice .now) (a .requirement .now) (a .group .now) (a .level .now) (a .names .now) (a .rights .now) (a .may .now)) (a .levels .now) (a .running .now) (a .chosen .now)
+    recordOf (lentPlant (a .counts) (a .sizes .now) (a .sets .now) (a .lattice .now) (a .requirement .now) (a .group .now) (a .level .now) (a .names .now) (a .rights .now) (a .may .now)) (a .levels .now) (a .running .now) (a .chosen .now)
 
 passes : (s : tie.Start) → intact (lent s .plant) (lent s) ≡ true
 passes s = s .pre .0

@@ -7,7 +7,7 @@ use Rattle.plant.specs.Valid.{Valid}
 use Rattle.rules.specs.declared.Monitor.{Monitor}
 use Rattle.rules.specs.Rules.{stop}
 use Rattle.rules.specs.Record.{recordOf}
-use Rattle.calls.specs.Lent.{plantOf, Does, Passed, SetReads, StopReads, GrantReads}
+use Rattle.calls.specs.Lent.{lentPlant, Does, Passed, SetReads, StopReads, GrantReads}
 use Rattle.calls.proofs.Ready.{plant-valid}
 use Rattle.calls.proofs.Steps.{unknown-does}
 use Rattle.calls.proofs.Grants.{start-items, stop-item, start-granted, stop-granted, start-refused, stop-refused}
@@ -19,7 +19,7 @@ use Rattle.turns.proofs.turn.Tie as tie
 abbrev lent : tie.Start → Monitor
 lent s =
     let a = s .args in
-    recordOf (plantOf (a .counts) (a .sizes .now) (a .sets .now) (a .lattice .now) (a .requirement .now) (a .group .now) (a .level .now) (a .names .now) (a .rights .now) (a .may .now)) (a .levels .now) (a .running .now) (a .chosen .now)
+    recordOf (lentPlant (a .counts) (a .sizes .now) (a .sets .now) (a .lattice .now) (a .requirement .now) (a .group .now) (a .level .now) (a .names .now) (a .rights .now) (a .may .now)) (a .levels .now) (a .running .now) (a .chosen .now)
 
 passed : (s : tie.Start) → Passed (s .args .counts) (lent s)
 passed s = record { passes = s .pre .0; counts = refl }
