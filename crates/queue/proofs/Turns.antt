@@ -21,7 +21,7 @@ use Rattle.monitor.specs.declared.Answered.{Answered}
 use Rattle.monitor.specs.Calls.{stepOf}
 use Rattle.requests.specs.declared.Request.{Request}
 use Rattle.requests.specs.Requests.{callOf}
-use Rattle.queue.specs.Queue.{queueRefusal, admitOf, made}
+use Rattle.queue.specs.Queue.{queueRefusal, admitOf, queuedCalls}
 
 abbrev pub noRequest : Request
 noRequest = record { kind = 0; a = 0; b = 0; c = 0; d = 0 }
@@ -87,5 +87,5 @@ module _ (m : Monitor) (rs : List Request) (ys : List ℕ) where
   pub count-fits : (count ≤ length rs) × (count ≤ length ys) × (0 < count → intact (m .plant) m ≡ true)
   count-fits = counted (intact (m .plant) m) (ltb (length ys) (length rs)) (length rs) (length ys) refl
 
-  pub all-made : calls rs count ≡ made m rs ys
+  pub all-made : calls rs count ≡ queuedCalls m rs ys
   all-made = split (eqb (queueRefusal m (length rs) (length ys)) 0) (λ y. rw y (ap (map callOf) (take-length rs))) (λ n. rw n)

@@ -50,7 +50,7 @@ use Rattle.monitor.proofs.Answered as S
 use Rattle.monitor.proofs.Answered.Laws as S′
 use Rattle.requests.specs.declared.Request.{Request}
 use Rattle.requests.proofs.Request as Q
-use Rattle.queue.specs.Queue.{made, queueOf}
+use Rattle.queue.specs.Queue.{queuedCalls, queueOf}
 use Rattle.queue.proofs.queue as queue
 use Rattle.queue.proofs.queue.Symbol as queue-def
 use Rattle.queue.proofs.queue.Symbol.{name as #queue}
@@ -101,7 +101,7 @@ module _ {M : Type 1} (𝓤 : URA M) (H : Heap 𝓤) (A : Atoms 𝓤) (W : Given
 
   -- what `queue` ensures of its result and of the answers' last list
   abbrev Said : Answered → List ℕ → Type 0
-  Said r zs = (r ≡ queueOf h rs ys) × (zs ≡ overlay ys 0 (replies h (made h rs ys)))
+  Said r zs = (r ≡ queueOf h rs ys) × (zs ≡ overlay ys 0 (replies h (queuedCalls h rs ys)))
 
   abbrev Left : Answered → List ℕ → List (Item 𝓤)
   Left r zs = ‵ (fobs γ (T.the-row .coded .code (r .monitor))) ∷ ‵ (fbor κ (Body (mem T.the-row) b o γ)) ∷ ‵ (flft κ q) ∷ Tokens ∷ ‵ (finally u8 γ₂ zs) ∷ ‵ OwnRs ∷ []
