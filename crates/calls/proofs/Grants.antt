@@ -1,5 +1,5 @@
 -- The rights of the running tasks, kept beside the record: how a start and a stop keep them, and that the gate by them is the gate. Assumes nothing.
-use mathlib.Core.Path.{_≡_, refl, sym, ap, _∙_}
+use mathlib.Core.Path.{_≡_, refl, sym, _∙_}
 use mathlib.Core.Logic.{_≢_}
 use Prim.Native.Nat.{ℕ, _+_, _*_, _<_, _≤_}
 use native.Mathlib.Decide.{ℕ-discrete}
@@ -7,7 +7,7 @@ use native.Mathlib.Omega.{arith}
 use mathlib.Core.Bool.{Bool, true, false, _&&_, and-false}
 use mathlib.Core.List.{List}
 use lib.Dec.{eqb}
-use lib.ListN.{getD, length, set, replicate, getD-replicate, length-replicate, length-set}
+use lib.ListN.{getD, set, replicate, getD-replicate, length-replicate, length-set}
 use lib.Seq.{getD-set-same, getD-set-other}
 use borrow.Author.Tests.{eqb-true, eq-eqb, ne-eqb}
 use Rattle.base.specs.Below.{allBelow}

@@ -9,13 +9,12 @@ use lib.Dec.{eqb, ltb, leb}
 use lib.ListN.{getD, replicate, getD-replicate}
 use lib.ListN as ListN
 use borrow.Author.Tests.{lt-leb, le-leb, ltb-true, ltb-false, eqb-true, ne-eqb}
-use Rattle.base.specs.Chain.{Test, _gives_, first}
+use Rattle.base.specs.Chain.{_gives_, first}
 use Rattle.base.proofs.Logic.{split}
 use Rattle.base.proofs.Below.{all-at}
 use Rattle.plant.specs.declared.Plant.{Plant}
 use Rattle.plant.specs.Valid.{Valid}
 use Rattle.plant.specs.Right.{rights, validRight}
-use Rattle.plant.specs.Plant.{groupOf}
 use Rattle.choice.specs.Choice.{unset}
 use Rattle.rules.specs.declared.Monitor.{Monitor}
 use Rattle.rules.specs.Rules.{Call, set, stop, gate, unknown, skidOf, View, holds, conditions, refusal, acceptedAnswer, answer}

@@ -8,7 +8,7 @@ use mathlib.Core.List.{List, [], _∷_}
 use lib.Dec.{eqb, ltb, leb}
 use lib.ListN.{getD, length, replicate}
 use lib.ListN as ListN
-use Rattle.base.specs.Below.{allBelow, anyBelow}
+use Rattle.base.specs.Below.{anyBelow}
 use Rattle.base.specs.Bits.{bit}
 use Rattle.base.specs.Chain.{Test, _gives_, first}
 use Rattle.base.specs.Fill.{fill}

@@ -74,7 +74,8 @@ fn requirements_named<'a>(
 ) -> bool
     requires { ⌜ (groups ≤ 8) × (tasks ≤ 16) ⌝ }
     requires { ⌜ allBelow (entryBelow (now requirement) 8) groups ≡ true ⌝ }
-    ensures { λ r. ⌜ r ≡ allBelow (λ t. allBelow (λ g. requirementNamedIn (getD (now (names .entry)) t 0) (getD (now (rights .entry)) (t * 8 + g) 0) (getD (now (requirement .entry)) g 0)) groups) tasks ⌝ }
+    ensures { λ r. ⌜ r ≡ allBelow (λ t. allBelow (λ g. requirementNamedIn (getD (now (names .entry)) t 0)
+        (getD (now (rights .entry)) (t * 8 + g) 0) (getD (now (requirement .entry)) g 0)) groups) tasks ⌝ }
 {
     let n = tasks as usize;
     for t in 0..n {

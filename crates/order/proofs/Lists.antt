@@ -1,9 +1,8 @@
 -- Requests in words, and that a queue's and a batch's answers are the history's. Assumes nothing.
-use mathlib.Core.Path.{_≡_, refl, sym, subst, _∙_}
-use mathlib.Core.Logic.{_↔_}
-use Prim.Native.Nat.{ℕ, _/_, _≤_, _<_}
+use mathlib.Core.Path.{_≡_, refl, sym, subst}
+use Prim.Native.Nat.{ℕ, _/_, _≤_}
 use native.Mathlib.Omega.{arith}
-use mathlib.Core.Bool.{Bool, true}
+use mathlib.Core.Bool.{true}
 use mathlib.Core.List.{List, [], map}
 use lib.ListN.{length}
 use borrow.Author.Tests.{le-ltb, ne-eqb}
@@ -13,12 +12,12 @@ use Rattle.rules.specs.Record.{fresh, intact, final}
 use Rattle.monitor.specs.Calls.{openedOf}
 use Rattle.requests.specs.declared.Request.{Request}
 use Rattle.requests.specs.Requests.{callOf}
-use Rattle.queue.specs.Queue.{queueOf, queueRefusal}
+use Rattle.queue.specs.Queue.{queueRefusal}
 use Rattle.calls.proofs.Served.{calls-length, calls-at}
 use Rattle.listing.proofs.Listed.{lists-same}
-use Rattle.outcome.specs.Batch.{batchRefusal, batchCalls, batchOut}
+use Rattle.outcome.specs.Batch.{batchRefusal, batchCalls}
 use Rattle.order.specs.Order.{Kinds, Requests, QueueTold, BatchTold}
-use Rattle.order.proofs.Runs.{D, sound, same-fresh, list-demand, via}
+use Rattle.order.proofs.Runs.{D, sound, same-fresh, list-demand}
 use Rattle.order.proofs.Answers.{queue-served}
 use Rattle.order.proofs.Served.{batch-opened, batch-served}
 

@@ -53,7 +53,8 @@ fn refusal(opening: u8, bytes: usize, room: usize) -> u8
 // n answers, the count of rights held, and skid, tank, right of each. After a refusal it is as it was.
 #[no_mangle]
 pub extern "C" fn permits_batch(plant: &[u8], requests: &[u8], out: &mut [u8]) -> u8
-    ensures { λ r. ⌜ (r ≡ batchRefusal (now (plant .entry)) (now (requests .entry)) (length (now (out .entry)))) × (now (out .exit) ≡ batchOut (now (plant .entry)) (now (requests .entry)) (now (out .entry))) ⌝ }
+    ensures { λ r. ⌜ (r ≡ batchRefusal (now (plant .entry)) (now (requests .entry)) (length (now (out .entry))))
+        × (now (out .exit) ≡ batchOut (now (plant .entry)) (now (requests .entry)) (now (out .entry))) ⌝ }
 {
     let reading = read(plant);
     let number = refusal(reading.answer, requests.len(), out.len());

@@ -4,7 +4,7 @@ use mathlib.Core.Logic.{_⊎_, inl, inr, ⊎-elim}
 use Prim.Native.Nat.{ℕ, zero, suc, _≤_, _<_}
 use mathlib.Core.Bool.{true, false, not}
 use native.Mathlib.Omega.{arith}
-use lib.Bits.{bitAnd, and-zero-r}
+use lib.Bits.{and-zero-r}
 use lib.Dec.{eqb}
 use lib.ListN.{getD}
 use borrow.Author.Tests.{le-leb, lt-leb, leb-true, eqb-false, not-true}

@@ -1,7 +1,6 @@
 -- `gates::gate_refusal` meets its contract: where one of the three is not there, it is the first. Assumes nothing.
 use borrow.Author.Tests.{le-leb, lt-leb}
 use Rattle.calls.proofs.Steps.{item-missing}
-use borrow.Author.Needs.{needs}
 use Rattle.gates.proofs.gate_refusal.Statement.{statement}
 use Rattle.gates.proofs.gate_refusal.Tie as tie
 

@@ -1,6 +1,5 @@
 -- `held::write_tank` meets its contract: each turn writes the next right. Assumes nothing.
 use Prim.Native.Nat.{ℕ, _≤_, _-_}
-use mathlib.Core.List.{List}
 use lib.ListN.{getD}
 use Rattle.base.specs.Collect.{collect}
 use Rattle.base.specs.Overlay.{Wrote}

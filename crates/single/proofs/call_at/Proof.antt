@@ -6,7 +6,6 @@ use Rattle.rules.specs.declared.Monitor.{Monitor}
 use Rattle.rules.specs.Record.{recordOf}
 use Rattle.calls.specs.Lent.{lentPlant, Passed, SetReads, StopReads, GateReads}
 use Rattle.calls.proofs.Steps.{unknown-does}
-use borrow.Author.Needs.{needs}
 use Rattle.single.proofs.call_at.Statement.{statement}
 use Rattle.single.proofs.call_at.Tie as tie
 

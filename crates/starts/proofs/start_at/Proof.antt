@@ -6,13 +6,10 @@ use native.Mathlib.Nat.{lt-of-lt-of-le}
 use Rattle.plant.specs.Valid.{Valid}
 use Rattle.rules.specs.declared.Monitor.{Monitor}
 use Rattle.rules.specs.Record.{recordOf, intact}
-use Rattle.choice.specs.Table.{groupChoice}
 use Rattle.calls.specs.Lent.{lentPlant}
-use Rattle.calls.specs.Work.{needsIn, RowDone}
 use Rattle.calls.proofs.Ready.{plant-valid, links-there, groups-counted, levels-there}
 use Rattle.calls.proofs.Made.{all-made, reached, by-choice}
 use Rattle.calls.proofs.Start.{passed, refused-early, refused-late, accepted}
-use borrow.Author.Needs.{needs}
 use Rattle.starts.proofs.start_at.Statement.{statement}
 use Rattle.starts.proofs.start_at.Tie as tie
 

@@ -1,9 +1,8 @@
 -- `steps::stop_at` meets its contract: the test is the definition's, and the rows are emptied. Assumes nothing.
-use mathlib.Core.Path.{refl, _∙_}
+use mathlib.Core.Path.{refl}
 use native.Mathlib.Omega.{arith}
 use borrow.Author.Tests.{le-leb, lt-leb}
 use Rattle.calls.proofs.Steps.{skids-fit, stop-does}
-use borrow.Author.Needs.{needs}
 use Rattle.steps.proofs.stop_at.Statement.{statement}
 use Rattle.steps.proofs.stop_at.Tie as tie
 

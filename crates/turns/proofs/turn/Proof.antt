@@ -11,7 +11,6 @@ use Rattle.calls.specs.Lent.{lentPlant, Does, Passed, SetReads, StopReads, Gran
 use Rattle.calls.proofs.Ready.{plant-valid}
 use Rattle.calls.proofs.Steps.{unknown-does}
 use Rattle.calls.proofs.Grants.{start-items, stop-item, start-granted, stop-granted, start-refused, stop-refused}
-use borrow.Author.Needs.{needs}
 use Rattle.turns.proofs.turn.Statement.{statement}
 use Rattle.turns.proofs.turn.Tie as tie
 
