@@ -1,5 +1,6 @@
 // The header of a plant file: its counts, offsets and length, and checks 1 to 4.
 #![tactic(auto)]
+
 ghost use Rattle.std.specs.Prelude.{◌≡◌, ◌+◌, ◌*◌, ◌<◌, ◌≤◌, length};
 ghost use Rattle.layout.specs.Layout.{word_at, sections, headerBytes, length_at, width, limit, count, offset, end};
 ghost use Rattle.layout.specs.Header.{lengthOk, editionOk, countOk, countsOk, zerosOk};
@@ -102,6 +103,7 @@ pub fn length_said(file: &[u8]) -> usize
 }
 
 // 1: the length.
+#[tactic(auto, unfolding(layout::specs::Header::lengthOk))]
 pub fn length_ok(file: &[u8]) -> bool
     ensures { result ≡ lengthOk file.now }
 {
@@ -115,6 +117,7 @@ pub fn length_ok(file: &[u8]) -> bool
 }
 
 // 2: the edition.
+#[tactic(auto, unfolding(layout::specs::Header::editionOk))]
 pub fn edition_ok(file: &[u8]) -> bool
     requires { headerBytes ≤ length file.now }
     ensures { result ≡ editionOk file.now }
@@ -123,6 +126,7 @@ pub fn edition_ok(file: &[u8]) -> bool
 }
 
 // 3: the counts.
+#[tactic(auto, unfolding(layout::specs::Header::countOk))]
 pub fn count_ok(kind: usize, count: usize) -> bool
     requires { kind < sections }
     ensures { result ≡ countOk kind count }
@@ -130,6 +134,7 @@ pub fn count_ok(kind: usize, count: usize) -> bool
     1 <= count && count <= limit_of(kind)
 }
 
+#[tactic(auto, using(base::proofs::Scan::scan), unfolding(layout::specs::Header::countsOk))]
 pub fn counts_ok(file: &[u8]) -> bool
     requires { headerBytes ≤ length file.now }
     ensures { result ≡ countsOk file.now }
@@ -143,6 +148,7 @@ pub fn counts_ok(file: &[u8]) -> bool
 }
 
 // 4: the header's zero bytes.
+#[tactic(auto, unfolding(layout::specs::Header::zerosOk))]
 pub fn zeros_ok(file: &[u8]) -> bool
     requires { headerBytes ≤ length file.now }
     ensures { result ≡ zerosOk file.now }

@@ -1,0 +1,9 @@
+-- The scan over the sections: the counts below the section that comes next are within their limits.
+use Rattle.std.proofs.Common.{◌≡◌, ℕ, true}
+use Rattle.base.specs.Below.{all_below}
+use Rattle.layout.specs.Layout.{count}
+use Rattle.layout.specs.Header.{countOk}
+use Rattle.header.proofs.counts_ok.Given as goal
+
+abbrev pub invariant-loop-kind : goal.invariant-loop-kind
+invariant-loop-kind l = all_below (λ (k : ℕ). countOk k (count l.file k)) l.kind ≡ true
