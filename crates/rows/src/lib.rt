@@ -1,5 +1,6 @@
 // A row of the table of joins: the join of one level with each level of its lattice, found by the sets of the levels.
 #![tactic(auto)]
+
 ghost use Rattle.std.specs.Prelude.{◌≡◌, true, cond, eqb, ◌<◌, ◌≤◌};
 ghost use Rattle.base.specs.Below.{all_below};
 ghost use Rattle.base.specs.Bits.{bit};
