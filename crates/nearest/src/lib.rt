@@ -1,5 +1,6 @@
 // The levels for which a tank is nearest, as sets.
 #![tactic(auto)]
+
 ghost use Rattle.std.specs.Prelude.{◌≡◌, true, not, ◌&&◌, ℕ, ◌<◌, ◌≤◌, get_or};
 ghost use Rattle.base.specs.Below.{all_below, anyBelow};
 ghost use Rattle.base.specs.Bits.{bit};
@@ -18,8 +19,9 @@ fn without_set(x: u16, y: u16) -> u16
 
 // The levels at which each group has a tank, as sets.
 pub fn places_of<'a>(group: &'a [u8; 64], level: &'a [u8; 64], tanks: usize) -> [u16; 8]
-    requires tanks_bound { tanks ≤ 64 }
-    requires tanks_value { (all_below (entryBelow group.now 8) tanks ≡ true) × (all_below (entryBelow level.now 16) tanks ≡ true) }
+    requires tanks_in { tanks ≤ 64 }
+    requires groups_in { all_below (entryBelow group.now 8) tanks ≡ true }
+    requires levels_in { all_below (entryBelow level.now 16) tanks ≡ true }
     ensures { (g y : ℕ) → g < 8 → bit (get_or result g 0) y ≡ anyBelow (standsIn group.now level.now g y) tanks }
 {
     let mut places = [0u16; 8];
