@@ -1,5 +1,6 @@
 // The table of the choices for each group and level.
 #![tactic(auto)]
+
 ghost use Rattle.std.specs.Prelude.{◌≡◌, true, ◌<◌, ◌≤◌, length};
 ghost use Rattle.base.specs.Below.{all_below};
 ghost use Rattle.plant.specs.Checks.{entryBelow};
@@ -33,9 +34,10 @@ pub fn make_choices<'a>(
     groups: u8,
     tanks: u8,
 )
-    requires groups_bound { (groups ≤ 8) × (tanks ≤ 64) }
-    requires groups_value { all_below (link_in lattice.now requirement.now) groups ≡ true }
-    requires tanks_value { (all_below (entryBelow group.now groups) tanks ≡ true) × (all_below (entryBelow level.now 16) tanks ≡ true) }
+    requires counts_in { (groups ≤ 8) × (tanks ≤ 64) }
+    requires links_in { all_below (link_in lattice.now requirement.now) groups ≡ true }
+    requires groups_in { all_below (entryBelow group.now groups) tanks ≡ true }
+    requires levels_in { all_below (entryBelow level.now 16) tanks ≡ true }
     requires tabled { Tabled sets.now group.now level.now lattice.now requirement.now groups tanks made.old }
     ensures { ChoicesIn sets.now group.now level.now lattice.now requirement.now groups tanks made.new }
 {
