@@ -1,5 +1,6 @@
 // The work of set and stop on the parts of a record that are lent to it, and a skid's row of choices or of rights granted.
 #![tactic(auto)]
+
 ghost use Rattle.std.specs.Prelude.{◌≡◌, cond, ◌*◌, ◌<◌};
 ghost use Rattle.plant.specs.declared.Plant.{Plant};
 ghost use Rattle.plant.specs.Plant.{rightsOf};
