@@ -1,5 +1,6 @@
 // Words, numbers and lines of numbers written into a lent buffer: each function puts its text at a place and returns the place behind it.
 #![tactic(auto)]
+
 ghost use Rattle.std.specs.Prelude.{[], ◌∷◌, ◌++◌, ◌+◌, ◌<◌, ◌≤◌, length};
 ghost use Rattle.base.specs.Overlay.{Wrote};
 ghost use Rattle.printing.specs.Decimal.{decimal, decimalPlace, digit};

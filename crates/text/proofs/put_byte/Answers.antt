@@ -1,0 +1,6 @@
+-- One byte written: `wrote-byte` at the place.
+use Rattle.base.proofs.Written.{wrote-byte}
+use Rattle.text.proofs.put_byte.Goals as goal
+
+pub returns : goal.returns
+returns c = wrote-byte c.args.text.now c.args.at c.args.byte c.requires
