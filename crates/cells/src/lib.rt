@@ -1,5 +1,6 @@
 // The cells of a section's records, read from the section's part.
 #![tactic(auto)]
+
 ghost use Rattle.std.specs.Prelude.{◌≡◌, ◌+◌, ◌*◌, ◌<◌, ◌≤◌, length};
 ghost use Rattle.layout.specs.Layout.{word_at, place, bytes_of, words_of, zeroAt, zerosAt, Cells};
 
@@ -19,7 +20,7 @@ fn short_at(s: &[u8], i: usize) -> u16
 // Where cell k of n records stands, and that it lies within them. Every reader of a section takes its bounds from here.
 fn place_of(w: usize, from: usize, run: usize, e: usize, n: usize, k: usize) -> usize
     requires cells { Cells w from run e n }
-    requires k_bound { k < n * run }
+    requires in_range { k < n * run }
     ensures { (result ≡ place w from run e k) × (result + e ≤ n * w) }
 {
     k / run * w + (from + k % run * e)
@@ -28,7 +29,7 @@ fn place_of(w: usize, from: usize, run: usize, e: usize, n: usize, k: usize) -> 
 // The cells of n records of a section: `run` bytes of each, from its byte `from` on.
 pub fn bytes_into(s: &[u8], w: usize, from: usize, run: usize, n: usize, out: &mut [u8])
     requires cells { Cells w from run 1 n }
-    requires w_in_bounds { (n * w ≤ length s.now) × (n * run ≤ length out.old) }
+    requires in_bounds { (n * w ≤ length s.now) × (n * run ≤ length out.old) }
     ensures { out.new ≡ bytes_of s.now w from run n out.old }
 {
     let cells = n * run;
@@ -41,7 +42,7 @@ pub fn bytes_into(s: &[u8], w: usize, from: usize, run: usize, n: usize, out: &m
 // The same for two-byte cells.
 pub fn words_into(s: &[u8], w: usize, from: usize, run: usize, n: usize, out: &mut [u16])
     requires cells { Cells w from run 2 n }
-    requires w_in_bounds { (n * w ≤ length s.now) × (n * run ≤ length out.old) }
+    requires in_bounds { (n * w ≤ length s.now) × (n * run ≤ length out.old) }
     ensures { out.new ≡ words_of s.now w from run n out.old }
 {
     let cells = n * run;
@@ -53,7 +54,7 @@ pub fn words_into(s: &[u8], w: usize, from: usize, run: usize, n: usize, out: &m
 
 fn zero_cell(s: &[u8], w: usize, from: usize, n: usize, k: usize) -> bool
     requires cells { Cells w from 1 1 n }
-    requires w_in_bounds { (n * w ≤ length s.now) × (k < n) }
+    requires in_bounds { (n * w ≤ length s.now) × (k < n) }
     ensures { result ≡ zeroAt s.now w from k }
 {
     let at = place_of(w, from, 1, 1, n, k);
@@ -61,9 +62,10 @@ fn zero_cell(s: &[u8], w: usize, from: usize, n: usize, k: usize) -> bool
 }
 
 // Whether byte `from` of each of n records is zero.
+#[tactic(auto, using(base::proofs::Scan::scan), unfolding(layout::specs::Layout::zerosAt))]
 pub fn zeros_at(s: &[u8], w: usize, from: usize, n: usize) -> bool
     requires cells { Cells w from 1 1 n }
-    requires w_in_bounds { n * w ≤ length s.now }
+    requires in_bounds { n * w ≤ length s.now }
     ensures { result ≡ zerosAt s.now w from n }
 {
     for k in 0..n {

@@ -1,0 +1,9 @@
+-- A cell lies within the records: `within-cells`, at the place that is computed.
+use Rattle.std.proofs.Common.{refl}
+use Rattle.layout.specs.Layout.{place}
+use Rattle.layout.proofs.Sizes.{within-cells}
+use Rattle.cells.proofs.place_of.Goals as goal
+
+pub returns : goal.returns
+unfolding place
+returns c = (refl, within-cells _ c.requires.cells c.requires.in_range)
