@@ -1,5 +1,6 @@
 // The sections of a plant file: checks 5 and 6, the part that a section fills, and the section call.
 #![tactic(auto)]
+
 ghost use Rattle.std.specs.Prelude.{◌≡◌, ◌+◌, ◌<◌, ◌≤◌, length};
 ghost use Rattle.base.specs.Below.{all_below};
 ghost use Rattle.layout.specs.Layout.{sections, headerBytes, end, part, place};
@@ -11,6 +12,7 @@ use header::{
 use layout::Place;
 
 // 5: where the sections begin and end.
+#[tactic(auto, unfolding(layout::specs::Header::inside))]
 fn is_inside(file: &[u8], kind: usize) -> bool
     requires { (headerBytes ≤ length file.now) × (kind < sections) }
     ensures { result ≡ inside file.now kind }
@@ -18,6 +20,7 @@ fn is_inside(file: &[u8], kind: usize) -> bool
     HEADER_BYTES <= offset_of(file, kind) && end_of(file, kind) <= file.len()
 }
 
+#[tactic(auto, using(base::proofs::Scan::scan), unfolding(layout::specs::Header::allInside))]
 fn all_inside(file: &[u8]) -> bool
     requires { headerBytes ≤ length file.now }
     ensures { result ≡ allInside file.now }
@@ -31,6 +34,7 @@ fn all_inside(file: &[u8]) -> bool
 }
 
 // 6: two sections that share no byte.
+#[tactic(auto, unfolding(layout::specs::Header::apart))]
 fn are_apart(file: &[u8], i: usize, j: usize) -> bool
     requires { (headerBytes ≤ length file.now) × ((i < sections) × (j < sections)) }
     ensures { result ≡ apart file.now i j }
@@ -38,6 +42,7 @@ fn are_apart(file: &[u8], i: usize, j: usize) -> bool
     end_of(file, i) <= offset_of(file, j) || end_of(file, j) <= offset_of(file, i)
 }
 
+#[tactic(auto, using(base::proofs::Scan::scan))]
 fn apart_from(file: &[u8], i: usize) -> bool
     requires { (headerBytes ≤ length file.now) × (i < sections) }
     ensures { result ≡ all_below (apart file.now i) i }
@@ -50,6 +55,7 @@ fn apart_from(file: &[u8], i: usize) -> bool
     true
 }
 
+#[tactic(auto, using(base::proofs::Scan::scan), unfolding(layout::specs::Header::allApart))]
 fn all_apart(file: &[u8]) -> bool
     requires { headerBytes ≤ length file.now }
     ensures { result ≡ allApart file.now }
@@ -63,6 +69,7 @@ fn all_apart(file: &[u8]) -> bool
 }
 
 // The first of 1 to 6 that fails, or 0.
+#[tactic(auto, using(base::proofs::Chain::checks), unfolding(layout::specs::Header::headerRefusal))]
 pub fn header_refusal(file: &[u8]) -> u8
     ensures { result ≡ headerRefusal file.now }
 {
