@@ -1,5 +1,6 @@
 // Check 9: the tables of joins and meets of a lattice's levels, made by one function and tested by another.
 #![tactic(auto)]
+
 ghost use Rattle.std.specs.Prelude.{◌≡◌, get_or, ℕ, ◌^◌, ◌<◌, ◌≤◌};
 ghost use Rattle.lattice.specs.Levels.{complete};
 ghost use Rattle.lattice.specs.Sets.{withSets, underIn, OrderedSets, Turned, added, turnedSets};
