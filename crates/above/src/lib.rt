@@ -1,5 +1,6 @@
 // Check 8: what lies above each level of a lattice record, and whether the levels are in order.
 #![tactic(auto)]
+
 ghost use Rattle.std.specs.Prelude.{◌≡◌, ◌<◌};
 ghost use Rattle.base.specs.Below.{all_below};
 ghost use Rattle.lattice.specs.Levels.{Layout, ordered};
