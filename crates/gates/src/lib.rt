@@ -1,5 +1,6 @@
 // The work of a gate on the parts of a record that are lent to it: by the record, or in a list by the rights granted.
 #![tactic(auto)]
+
 ghost use Rattle.std.specs.Prelude.{◌≡◌, ◌≢◌, ℕ, eqb};
 ghost use Rattle.plant.specs.declared.Plant.{Plant};
 ghost use Rattle.rules.specs.declared.Monitor.{Monitor};
