@@ -1,5 +1,6 @@
 // The test of a lattice record: check 7, and with crates above and joins the number that refuses it.
 #![tactic(auto)]
+
 ghost use Rattle.std.specs.Prelude.{◌≡◌, ◌<◌, ◌≤◌};
 ghost use Rattle.base.specs.Below.{all_below};
 ghost use Rattle.lattice.specs.Levels.{setClear, layout, latticeRefusal};
