@@ -1,5 +1,6 @@
 // The lines of a batch's outcome written into a lent buffer: each function puts its lines at a place and returns the place behind them.
 #![tactic(auto)]
+
 ghost use Rattle.std.specs.Prelude.{◌+◌, ◌*◌, ◌<◌, ◌≤◌, length};
 ghost use Rattle.base.specs.Overlay.{Wrote};
 ghost use Rattle.layout.specs.Layout.{byte_at};
@@ -50,8 +51,8 @@ fn put_rights(text: &mut [u8], at: usize, rights: &[u8], n: usize) -> usize
 
 // From the byte after the last answer on: the count of rights held, and the rights.
 fn put_held(text: &mut [u8], at: usize, held: &[u8]) -> usize
-    requires held_in_bounds { 1 + byte_at held.now 0 * 3 ≤ length held.now }
-    requires held_in_bounds_2 { at + length (heldLines held.now) ≤ length text.old }
+    requires rights_within { 1 + byte_at held.now 0 * 3 ≤ length held.now }
+    requires room { at + length (heldLines held.now) ≤ length text.old }
     ensures { Wrote (heldLines held.now) text.old at text.new result }
 {
     let count = held[0];
