@@ -32,7 +32,7 @@ bounds-places-g c =
 pub nearest_for-near-requires : goal.nearest_for-near-requires
 nearest_for-near-requires c =
     let t = there c.args.lattice.now c.args.requirement.now _ _ _ _ _ c.requires.counts_in c.requires.links_in c.requires.groups_in c.requires.levels_in c.loop-o.invariant.0 c.loop-o-test.true in
-    (t.lattice-there, t.level-there)
+    (omega arith, omega arith)
 
 pub put_choices-requires : goal.put_choices-requires
 put_choices-requires c = (
