@@ -1,5 +1,6 @@
 // The writer of the list of rights held: how many there are, and then each as skid, tank, right, rising in that order.
 #![tactic(auto)]
+
 ghost use Rattle.std.specs.Prelude.{◌≡◌, [], ◌∷◌, ◌+◌, ◌/◌, ◌<◌, ◌≤◌, length};
 ghost use Rattle.base.specs.Overlay.{overlay, Wrote};
 ghost use Rattle.rules.specs.declared.Monitor.{Monitor};
@@ -78,8 +79,8 @@ fn write_skid<'a, 'b>(
     out: &mut [u8],
     at: usize,
 ) -> usize
-    requires s_lt_skids { s < counts.skids }
-    requires gate_reads { (m : Monitor) × (GateReads counts group.now rights.now running.now chosen.now m × RoomFor (heldBy m s) out.old at) }
+    requires in_range { s < counts.skids }
+    requires reads { (m : Monitor) × (GateReads counts group.now rights.now running.now chosen.now m × RoomFor (heldBy m s) out.old at) }
     ensures { (m : Monitor) → GateReads counts group.now rights.now running.now chosen.now m
         → RoomFor (heldBy m s) out.old at → Wrote (rightBytes (heldBy m s)) out.old at out.new result }
 {
@@ -131,8 +132,8 @@ pub fn write_held<'a, 'b>(
     chosen: &'b [u8; 64],
     out: &mut [u8],
 )
-    requires gate_reads { (m : Monitor) × GateReads counts group.now rights.now running.now chosen.now m }
-    requires in_bounds { 577 ≤ length out.old }
+    requires reads { (m : Monitor) × GateReads counts group.now rights.now running.now chosen.now m }
+    requires room { 577 ≤ length out.old }
     ensures { (m : Monitor) → GateReads counts group.now rights.now running.now chosen.now m
         → out.new ≡ overlay out.old 0 (listing (heldRights m)) }
 {

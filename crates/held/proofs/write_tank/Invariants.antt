@@ -1,0 +1,11 @@
+-- The first i of the tank's rights that are held are written.
+use Rattle.std.proofs.Common.{get_or}
+use Rattle.plant.specs.Right.{allRights}
+use Rattle.calls.specs.Lent.{HeldReads}
+use Rattle.listing.specs.Parts.{held_at, heldOn}
+use Rattle.held.proofs.Turns.{WroteTurns}
+use Rattle.held.proofs.write_tank.Given as goal
+
+abbrev pub invariant-loop-i : goal.invariant-loop-i
+invariant-loop-i l =
+    WroteTurns (HeldReads l.group l.rights l.running l.chosen l.s l.o) (λ m. heldOn m l.s l.o) (λ m k. held_at m l.s l.o (get_or allRights k 0)) 3 l.initial.out l.at l.i l.out l.end
