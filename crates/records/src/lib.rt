@@ -1,5 +1,6 @@
 // The plant that the records of a plant file make: each section's cells, read into the arrays of the plant's record.
 #![tactic(auto)]
+
 ghost use Rattle.std.specs.Prelude.{◌≡◌, ◌<◌};
 ghost use Rattle.layout.specs.Layout.{lattices, tanks, tasks, skids, sections, width, limit, Records};
 ghost use Rattle.layout.specs.Header.{headerRefusal};
@@ -33,7 +34,7 @@ const SKID_TASKS: usize = 0;
 // own zero.
 fn read_eight(s: &[u8], kind: usize, n: usize) -> [u8; 8]
     requires records { Records s.now kind n }
-    requires kind_lt_sections { (kind < sections) × (limit kind ≡ 8) }
+    requires eight_bytes { (kind < sections) × (limit kind ≡ 8) }
     ensures { result ≡ bytesIn (firstCell kind) s.now n }
 {
     let mut out = [0u8; 8];
@@ -54,7 +55,7 @@ fn read_sets(s: &[u8], n: usize) -> [u16; 128]
 // Each tank's group, or its level.
 fn read_tanks(s: &[u8], n: usize, from: usize) -> [u8; 64]
     requires records { Records s.now tanks n }
-    requires from_bound { from < width tanks }
+    requires in_record { from < width tanks }
     ensures { result ≡ bytesIn (oneCell tanks from) s.now n }
 {
     let mut out = [0u8; 64];
