@@ -1,5 +1,6 @@
 // The row of tanks that a start chooses: the groups that its task needs, and the tank for each.
 #![tactic(auto)]
+
 ghost use Rattle.std.specs.Prelude.{◌≡◌, ◌<◌, ◌≤◌, replicate};
 ghost use Rattle.plant.specs.declared.Plant.{Plant};
 ghost use Rattle.rules.specs.declared.Monitor.{Monitor};
@@ -78,7 +79,7 @@ pub fn choose_row<'a>(
     need: u16,
 ) -> u8
     requires late_reads { (m : Monitor) × (LateReads requirement.now levels.now made.now s t m × Needed m.plant t need) }
-    requires row_value { row.old ≡ replicate 8 255 }
+    requires empty_row { row.old ≡ replicate 8 255 }
     ensures { (m : Monitor) → LateReads requirement.now levels.now made.now s t m → Needed m.plant t need
         → RowDone m s t result row.new }
 {
