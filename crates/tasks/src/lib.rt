@@ -1,5 +1,6 @@
 // Check 10 on the tasks and skids of a plant: no requirement, right or task past its count.
 #![tactic(auto)]
+
 ghost use Rattle.std.specs.Prelude.{◌≡◌, ◌<◌, ◌≤◌, get_or};
 ghost use Rattle.base.specs.Below.{all_below};
 ghost use Rattle.base.specs.Bits.{noneFrom};
@@ -8,6 +9,7 @@ ghost use Rattle.plant.specs.Checks.{entryClear, rightFitsIn, taskRightsFitIn, t
 use plant::Right;
 
 // No bit of x at or past n. A shift by 16 wants the wider number.
+#[tactic(auto, unfolding(base::specs::Bits::noneFrom))]
 fn none_from(x: u16, n: u8) -> bool
     requires { n ≤ 16 }
     ensures { result ≡ noneFrom n x }
@@ -27,6 +29,7 @@ fn right_fits(x: u8, g: usize, groups: usize) -> bool
     x == 0
 }
 
+#[tactic(auto, using(base::proofs::Scan::scan))]
 fn rights_fit(rights: &[u8; 128], groups: usize, t: usize) -> bool
     requires { t < 16 }
     ensures { result ≡ all_below (taskRightsFitIn rights.now groups t) 8 }
@@ -46,6 +49,7 @@ fn task_fits(names: u8, rights: &[u8; 128], requirements: u8, groups: usize, t: 
     none_from(names as u16, requirements) && rights_fit(rights, groups, t)
 }
 
+#[tactic(auto, using(base::proofs::Scan::scan))]
 pub fn tasks_fit<'a>(
     names: &'a [u8; 16],
     rights: &'a [u8; 128],
@@ -65,6 +69,7 @@ pub fn tasks_fit<'a>(
     true
 }
 
+#[tactic(auto, using(base::proofs::Scan::scan))]
 pub fn skids_fit(may: &[u16; 8], tasks: u8, skids: u8) -> bool
     requires { (tasks ≤ 16) × (skids ≤ 8) }
     ensures { result ≡ all_below (entryClear may.now tasks) skids }
