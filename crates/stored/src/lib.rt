@@ -1,5 +1,6 @@
 // The stored levels of a monitor's record: whether each is unset or one of its lattice.
 #![tactic(auto)]
+
 ghost use Rattle.std.specs.Prelude.{◌≡◌, true, ◌<◌, ◌≤◌, get_or};
 ghost use Rattle.base.specs.Below.{all_below};
 ghost use Rattle.plant.specs.Checks.{entryBelow};
@@ -22,8 +23,8 @@ pub fn levels_by_requirement<'a>(
     lattice: &'a [u8; 8],
     requirements: usize,
 ) -> [u8; 8]
-    requires requirements_bound { requirements ≤ 8 }
-    requires requirements_value { all_below (entryBelow lattice.now 8) requirements ≡ true }
+    requires requirements_in { requirements ≤ 8 }
+    requires lattices_in { all_below (entryBelow lattice.now 8) requirements ≡ true }
     ensures { result ≡ levelsByRequirement sizes.now lattice.now requirements }
 {
     let mut most = [255u8; 8];
@@ -35,7 +36,8 @@ pub fn levels_by_requirement<'a>(
 
 // A stored level is unset, 255, or one of its lattice.
 fn level_ok(v: u8, n: u8) -> bool
-    ensures { (result ≡ levelIn v n) × (n ≡ 255 → result ≡ true) }
+    ensures tested { result ≡ levelIn v n }
+    ensures all_pass { n ≡ 255 → result ≡ true }
 {
     v == 255 || v < n
 }
