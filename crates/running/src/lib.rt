@@ -1,5 +1,6 @@
 // The running tasks of a monitor's record and their chosen tanks: whether each skid may run its task, and each tank is one of its group.
 #![tactic(auto)]
+
 ghost use Rattle.std.specs.Prelude.{◌≡◌, ◌<◌, ◌≤◌};
 ghost use Rattle.base.specs.Below.{all_below};
 ghost use Rattle.plant.specs.Checks.{Fits};
