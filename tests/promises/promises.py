@@ -11,8 +11,8 @@ import tempfile
 from collections import namedtuple
 from pathlib import Path
 
-# A function of a crate: its clauses are the words before braces, from the parameters to the body; `places` has where each clause begins, and
-# last where the body does.
+# A function of a crate: its clauses are the words before braces, from the parameters to the body, the kind and the name if there is one; `places`
+# has where each clause begins, and last where the body does.
 Function = namedtuple("Function", "crate path name public exported clauses places")
 
 HEAD = re.compile(r'^[ ]*(pub )?(extern "C" )?fn (\w+)[^(]*', re.M)
@@ -70,13 +70,18 @@ def declared(root):
     return set(re.findall(r"^\w+ (\w+)\(.*;$", (root / "include/permits.h").read_text(), re.M))
 
 
+def is_promise(clause):
+    """Whether the words before a clause's braces are those of an `ensures`, with or without a name."""
+    return re.fullmatch(r"ensures( \w+)?", clause) is not None
+
+
 def promise(f):
-    """What stands in the braces of the function's `ensures`, in one line, and the crates' modules that have the definitions it names."""
+    """What stands in the braces of the function's `ensures`, in one line, and the modules that have the definitions it names by words."""
     text = f.path.read_text()
-    parts = [text[f.places[k] : f.places[k + 1]] for k, clause in enumerate(f.clauses) if clause == "ensures"]
-    said = " ".join(" ".join(part[part.index("{") + 1 : part.rindex("}")].split()) for part in parts)
-    uses = re.findall(r"^ghost use Rattle·([^{;]+)\.\{([^}]*)\};", text, re.M)
-    modules = sorted(module for module, names in uses if set(names.split(", ")) & set(re.findall(r"[\w-]+", said)))
+    parts = [text[f.places[k] : f.places[k + 1]] for k, clause in enumerate(f.clauses) if is_promise(clause)]
+    said = " and ".join(" ".join(part[part.index("{") + 1 : part.rindex("}")].split()) for part in parts)
+    uses = re.findall(r"^ghost use Rattle\.([^{;]+)\.\{([^}]*)\};", text, re.M)
+    modules = sorted(module for module, names in uses if set(re.split(r"[,\s]+", names)) & set(re.findall(r"[\w'-]+", said)))
     return " ".join([said, "by", *modules])
 
 
@@ -111,9 +116,9 @@ def complaints(root):
 
 def unkept(f):
     for clause in f.clauses:
-        if clause != "ensures":
+        if not is_promise(clause):
             yield f"{f.name}: a public call with `{clause}`, {f.path}"
-    if "ensures" not in f.clauses:
+    if not any(map(is_promise, f.clauses)):
         yield f"{f.name}: a public call without `ensures`, {f.path}"
 
 
@@ -124,10 +129,11 @@ def wrong(root):
         f = next(f for f in found if f.public and f.name == name and f.crate in crates)
         text = f.path.read_text()
         for place in f.places:
-            yield f"{name}: a public call with `requires`", f.path, text[:place] + "requires { ⌜ ⊥ ⌝ }\n" + text[place:]
+            for clause in "requires", "requires never", "requires*":
+                yield f"{name}: a public call with `{clause}`", f.path, text[:place] + clause + " { ⊥ }\n" + text[place:]
         yield f"{name}: a public call without `ensures`", f.path, text[: f.places[0]] + text[f.places[-1] :]
-        yield f"{name}: another promise", f.path, text[: f.places[0]] + text[f.places[0] :].replace("⌜ ", "⌜ ⊥ → ", 1)
-        yield f"{name}: another promise", f.path, text.replace("ghost use Rattle·", "ghost use Rattle·other.")
+        yield f"{name}: another promise", f.path, text[: f.places[0]] + text[f.places[0] :].replace("{ ", "{ ⊥ → ", 1)
+        yield f"{name}: another promise", f.path, text.replace("ghost use Rattle.", "ghost use Rattle.other.")
         yield f"{name}: README.md's tables", f.path, re.sub(rf"\bfn {name}\b", f"fn {name}_other", text, count=1)
     for name in {f.name for f in found if f.exported}:
         for path in root / "README.md", root / "include/permits.h":
