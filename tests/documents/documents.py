@@ -85,7 +85,7 @@ def paths():
 
 def crates():
     """README.md's layout has each crate of crates.txt once, and no other."""
-    listed = re.findall(r"^(\w+):", Path("crates.txt").read_text(), re.M)
+    listed = re.findall(r"^(\w+)(?: staticlib)?:", Path("crates.txt").read_text(), re.M)
     shown = re.findall(r"^    crates/(\w+) ", part(README, "Layout"), re.M)
     if sorted(shown) != sorted(listed):
         yield f"README.md has {shown}, and crates.txt {listed}"
