@@ -1,5 +1,6 @@
 // The choices of a start by itself: for each group that its task needs the tank under the skid's level, and no others.
 #![tactic(auto)]
+
 ghost use Rattle.std.specs.Prelude.{◌≡◌, true, ℕ, ◌<◌, ◌≤◌, length};
 ghost use Rattle.base.specs.Below.{all_below, anyBelow};
 ghost use Rattle.base.specs.Bits.{bit};
@@ -25,9 +26,9 @@ fn is_nearest<'a>(
     o: usize,
     tanks: u8,
 ) -> bool
-    requires l_bound { (l < 8) × ((v < 16) × ((o < tanks) × (tanks ≤ 64))) }
-    requires tanks_value { all_below (entryBelow level.now 16) tanks ≡ true }
-    requires by_index { (y : ℕ) → bit places y ≡ anyBelow (standsIn group.now level.now g y) tanks }
+    requires in_range { (l < 8) × ((v < 16) × ((o < tanks) × (tanks ≤ 64))) }
+    requires levels_in { all_below (entryBelow level.now 16) tanks ≡ true }
+    requires places_are { (y : ℕ) → bit places y ≡ anyBelow (standsIn group.now level.now g y) tanks }
     ensures { result ≡ nearestIn sets.now group.now level.now l g v tanks o }
 {
     if wide(group[o]) != g {
@@ -47,9 +48,9 @@ fn choice_from<'a>(
     v: usize,
     tanks: u8,
 ) -> u8
-    requires l_bound { (l < 8) × ((v < 16) × (tanks ≤ 64)) }
-    requires tanks_value { all_below (entryBelow level.now 16) tanks ≡ true }
-    requires by_index { (y : ℕ) → bit places y ≡ anyBelow (standsIn group.now level.now g y) tanks }
+    requires in_range { (l < 8) × ((v < 16) × (tanks ≤ 64)) }
+    requires levels_in { all_below (entryBelow level.now 16) tanks ≡ true }
+    requires places_are { (y : ℕ) → bit places y ≡ anyBelow (standsIn group.now level.now g y) tanks }
     ensures { result ≡ choiceIn sets.now group.now level.now l g v tanks }
 {
     let mut o: u8 = 0;
@@ -78,7 +79,7 @@ fn put_choice<'a>(
     tanks: u8,
 )
     requires search_reads { (m : Monitor) × (SearchReads sets.now lattice.now requirement.now group.now level.now levels.now s t tanks m × (g < m.plant.groups)) }
-    requires by_index { (y : ℕ) → bit places y ≡ anyBelow (standsIn group.now level.now g y) tanks }
+    requires places_are { (y : ℕ) → bit places y ≡ anyBelow (standsIn group.now level.now g y) tanks }
     ensures { (m : Monitor) → SearchReads sets.now lattice.now requirement.now group.now
         level.now levels.now s t tanks m → g < m.plant.groups → EntryPut m s t g made.old made.new }
 {
