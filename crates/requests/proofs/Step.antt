@@ -1,25 +1,20 @@
 -- The two ways out of a call: a record that fails test 20, and one that passes it. Assumes nothing.
-use mathlib.Core.Path.{◌≡◌, refl, sym, ◌∙◌}
+use mathlib.Core.Path.{◌≡◌, refl, sym}
 use Prim.Native.Nat.{ℕ}
-use mathlib.Core.Bool.{Bool, true, false, not}
-use borrow.Author.Tests.{not-true, not-false}
+use mathlib.Core.Bool.{Bool, true, false}
 use Rattle.rules.specs.declared.Monitor.{Monitor}
 use Rattle.rules.specs.Rules.{Call, answer}
 use Rattle.rules.specs.Record.{view_of, intact, stepped, reply, after}
 use Rattle.requests.specs.Calls.{step_of}
 
--- what holds behind `if !is_intact(m) { .. }`
-pub passed : (m : Monitor) {b : Bool} → b ≡ intact m.plant m → not b ≡ false → intact m.plant m ≡ true
-passed m {b} e n = sym e ∙ not-false b n
-
 module _ (m : Monitor) (c : Call) {b : Bool} (e : b ≡ intact m.plant m) where
-  pub refused-20 : not b ≡ true → record { answer = 20; monitor = m } ≡ step_of m c
+  pub refused-20 : b ≡ false → record { answer = 20; monitor = m } ≡ step_of m c
   unfolding reply after
-  refused-20 n = rw (← e, not-true b n)
+  refused-20 n = rw (← e, n)
 
-  pub stepped-on : not b ≡ false → {a : ℕ} {m' : Monitor} → a ≡ answer m.plant (view_of m.plant m) c → m' ≡ stepped m.plant m c → record { answer = a; monitor = m' } ≡ step_of m c
+  pub stepped-on : b ≡ true → {a : ℕ} {m' : Monitor} → a ≡ answer m.plant (view_of m.plant m) c → m' ≡ stepped m.plant m c → record { answer = a; monitor = m' } ≡ step_of m c
   unfolding reply after
-  stepped-on n p q = rw (← e, not-false b n, p, q)
+  stepped-on n p q = rw (← e, n, p, q)
 
 -- the same on a record that is known to pass
 pub passed_on : (m : Monitor) → intact m.plant m ≡ true → (c : Call) {a : ℕ} {m' : Monitor} → a ≡ answer m.plant (view_of m.plant m) c → m' ≡ stepped m.plant m c → record { answer = a; monitor = m' } ≡ step_of m c
