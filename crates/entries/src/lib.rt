@@ -1,5 +1,6 @@
 // Opening's check 10 on a record: the links and the tanks, and with crate tasks all of it.
 #![tactic(auto)]
+
 ghost use Rattle.std.specs.Prelude.{◌≡◌, true, ◌<◌, ◌≤◌, get_or, replicate};
 ghost use Rattle.base.specs.Below.{all_below};
 ghost use Rattle.base.specs.Fill.{fill};
@@ -40,9 +41,9 @@ fn levels_by_group<'a>(
     requirements: u8,
     groups: u8,
 ) -> [u8; 8]
-    requires lattices_bound { (lattices ≤ 8) × ((requirements ≤ 8) × (groups ≤ 8)) }
-    requires requirements_value { all_below (entryBelow lattice.now lattices) requirements ≡ true }
-    requires groups_value { all_below (entryBelow requirement.now requirements) groups ≡ true }
+    requires counts_in { (lattices ≤ 8) × ((requirements ≤ 8) × (groups ≤ 8)) }
+    requires requirements_in { all_below (entryBelow lattice.now lattices) requirements ≡ true }
+    requires groups_in { all_below (entryBelow requirement.now requirements) groups ≡ true }
     ensures { result ≡ fill (levelsOfGroup sizes.now lattice.now requirement.now) (replicate 8 0) groups }
 {
     let mut levels = [0u8; 8];
@@ -84,8 +85,8 @@ fn tanks_within<'a>(
 
 fn tanks_fit(p: Plant) -> bool
     requires fits { Fits p }
-    requires requirements_value { all_below (entryBelow p.requirement_lattice p.lattices) p.requirements ≡ true }
-    requires groups_value { all_below (entryBelow p.group_requirement p.requirements) p.groups ≡ true }
+    requires requirements_in { all_below (entryBelow p.requirement_lattice p.lattices) p.requirements ≡ true }
+    requires groups_in { all_below (entryBelow p.group_requirement p.requirements) p.groups ≡ true }
     ensures { result ≡ all_below (tankFits p) p.tanks }
 {
     let levels = levels_by_group(
@@ -99,6 +100,7 @@ fn tanks_fit(p: Plant) -> bool
     tanks_within(&p.tank_group, &p.tank_level, p.groups, p.tanks, &levels)
 }
 
+#[tactic(auto, unfolding(plant::specs::Checks::numbersOk))]
 pub fn numbers_ok(p: Plant) -> bool
     requires { Fits p }
     ensures { result ≡ numbersOk p }
