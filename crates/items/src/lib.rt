@@ -1,5 +1,6 @@
 // Opening's checks 10 to 12 on the tanks, tasks and skids of a plant, in their order.
 #![tactic(auto)]
+
 ghost use Rattle.std.specs.Prelude.{◌≡◌, true, ◌+◌, ◌*◌, ◌<◌, ◌≤◌, get_or};
 ghost use Rattle.base.specs.Below.{all_below};
 ghost use Rattle.plant.specs.Checks.{Fits, entryBelow, levelsDistinct, requirementNamedIn, itemsRefusal};
@@ -19,7 +20,7 @@ fn place(group: u8, level: u8) -> usize
 // 11: no two tanks of one group at one level: each tank in turn finds its place free, and takes it.
 fn levels_distinct(p: Plant) -> bool
     requires fits { Fits p }
-    requires tanks_value { all_below (entryBelow p.tank_group 8) p.tanks ≡ true }
+    requires groups_in { all_below (entryBelow p.tank_group 8) p.tanks ≡ true }
     ensures { result ≡ levelsDistinct p }
 {
     let mut taken = [0u8; 2048];
@@ -52,8 +53,8 @@ fn task_named<'a>(
     groups: usize,
     t: usize,
 ) -> bool
-    requires groups_bound { (groups ≤ 8) × (t < 16) }
-    requires groups_value { all_below (entryBelow requirement.now 8) groups ≡ true }
+    requires counts_in { (groups ≤ 8) × (t < 16) }
+    requires requirements_in { all_below (entryBelow requirement.now 8) groups ≡ true }
     ensures { result ≡ all_below (λ g. requirementNamedIn names (get_or rights.now (t * 8 + g) 0) (get_or requirement.now g 0)) groups }
 {
     for g in 0..groups {
@@ -71,8 +72,8 @@ fn requirements_named<'a>(
     groups: u8,
     tasks: u8,
 ) -> bool
-    requires groups_bound { (groups ≤ 8) × (tasks ≤ 16) }
-    requires groups_value { all_below (entryBelow requirement.now 8) groups ≡ true }
+    requires counts_in { (groups ≤ 8) × (tasks ≤ 16) }
+    requires requirements_in { all_below (entryBelow requirement.now 8) groups ≡ true }
     ensures { result ≡ all_below (λ t. all_below (λ g. requirementNamedIn (get_or names.now t 0)
         (get_or rights.now (t * 8 + g) 0) (get_or requirement.now g 0)) groups) tasks }
 {
@@ -86,6 +87,7 @@ fn requirements_named<'a>(
 }
 
 // 10, 11 or 12, or 0.
+#[tactic(auto, unfolding(plant::specs::Checks::itemsRefusal, plant::specs::Checks::requirementsNamed))]
 pub fn items_refusal(p: Plant) -> u8
     requires { Fits p }
     ensures { result ≡ itemsRefusal p }
