@@ -1,5 +1,6 @@
 // A start: its conditions in their order, and what it stores.
 #![tactic(auto)]
+
 ghost use Rattle.std.specs.Prelude.{◌≡◌, true};
 ghost use Rattle.base.specs.Chain.{first};
 ghost use Rattle.rules.specs.declared.Monitor.{Monitor};
@@ -89,12 +90,12 @@ pub fn start_at<'a>(
     t: u8,
 ) -> u8
     ghost m: { Monitor }
-    requires chosen_value { recordOf (lentPlant counts sizes.now sets.now lattice.now requirement.now group.now level.now names.now
+    requires lent { recordOf (lentPlant counts sizes.now sets.now lattice.now requirement.now group.now level.now names.now
         rights.now may.now) levels.now running.old chosen.old ≡ m }
-    requires m_value { intact m.plant m ≡ true }
+    requires passes_test_20 { intact m.plant m ≡ true }
     requires tables { Tables m.plant made.old needs.old }
     ensures does { Does m (start s t) result (withTask m running.new chosen.new) }
-    ensures tables_2 { Tables m.plant made.new needs.new }
+    ensures tables { Tables m.plant made.new needs.new }
 {
     let early = start_early(counts, may, running, s, t);
     if early != 0 {
