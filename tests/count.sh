@@ -49,6 +49,17 @@ stage() {
     rm -f "$log"
 }
 
+# logged FILE COMMAND..: the command, whose output goes to FILE too
+logged() {
+    mkdir -p "$(dirname "$1")"
+    "${@:2}" | tee "$1"
+}
+
+# in_crate NAME COMMAND..: the command in the folder of a crate
+in_crate() {
+    (cd "crates/$1" && "${@:2}")
+}
+
 # need COMMAND PACKAGE WHY: without the command the script fails here, and says which package of Debian has it
 need() {
     if ! command -v "$1" >/dev/null; then

@@ -1,8 +1,11 @@
-"""Reads off the logs of the last run where the check refused each must-fail edit, and holds docs/WRONG-PROGRAMS.md to it.
+"""Reads off what the gate printed where the check refused each must-fail edit, and holds docs/WRONG-PROGRAMS.md to it.
 
-    edits.py table ROOT     the document's table; a fact that the document names is kept where the log still has it
-    edits.py check ROOT     that the document has each edit once, with what it changes, its own first line and a fact that its log has
-    edits.py itself ROOT    that the check fails where a row is left out, doubled or names another fact
+    edits.py table ROOT LOG     the document's table, for a reader to judge; an edit that LOG does not have keeps its row
+    edits.py check ROOT LOG     that the document has each edit once, with what it changes, its own first line and the fact that LOG has
+    edits.py itself ROOT LOG    that the check fails where a row is left out, doubled or names another fact, and where an edit was not tried, was not
+                                refused, or was refused for nothing that its contracts say
+
+LOG has what `rt ci` or `rt must-fail` printed: a line for each edit, with the first fact of which the check said that it does not hold.
 """
 import re
 import sys
@@ -10,38 +13,40 @@ from pathlib import Path
 
 DOCUMENT = "docs/WRONG-PROGRAMS.md"
 
-# An error in a law or in a function's proof: file, line, law, message.
-ERROR = re.compile(r"^(\S+):(\d+):\d+: error: `([^`]+)`: (.*)$", re.M)
-# What the checker's own walk of a function found open: file and line of the function.
-OPEN = re.compile(r"^note: (\S+\.rt):(\d+):\d+: it is not proved that ", re.M)
+# The line of an edit in the log: crate, name and what is said of it.
+LINE = re.compile(r"^rt: must-fail (\w+)/([\w.-]+)\.edit: (.*)$", re.M)
+# What is said of an edit that a fact refuses. Any other word in its place (not refused, not tried, a bad edit, refused only because a name is gone
+# or for a limit of the check) shows nothing of a contract.
+REFUSED = "refused, as it must be: "
+# The law or the step of a function's proof that was not accepted: its file and name.
+ERROR = re.compile(r"(?:\./)?((?:specs|proofs)/\S+\.antt):\d+:\d+: error: `([^`]+)`: ")
+# What the check's own walk of a function leaves open: file and line of the function or of a part of it.
+OPEN = re.compile(r"note: (?:\./)?(src/\S+\.rt):(\d+):\d+: it is not proved that ")
+# The files of the proof of one function, in a folder of its name.
+PARTS = {"Answers.antt", "Invariants.antt", "Proof.antt"}
 PAIR = re.compile(r"^file: (\S+)$|^old: (.*)$", re.M)
-ROW = re.compile(r"^\| (\w+/\w+) \| (.*) \| (.*) \| (.*) \|$", re.M)
+ROW = re.compile(r"^\| (\w+/[\w.-]+) \| (.*) \| (.*) \| (.*) \|$", re.M)
+# A clause, and nothing in code, has one of these: a promise's words, what a lent argument holds, the names that a ghost use brings.
+CLAUSE = re.compile(r"^ghost use|≡|\b(?:ensures|requires)\b|\.(?:now|old|new)\b")
 
 
 def function_at(source, line):
-    """The function whose text has this line of a source file."""
-    before = "\n".join(source.read_text().splitlines()[:line])
-    return re.findall(r"\bfn (\w+)", before + " " + source.read_text().splitlines()[line])[-1]
+    """The function whose text has this line of a source file, the last that begins there or before. No edit changes the number of lines."""
+    lines = source.read_text().splitlines()
+    return re.findall(r"\bfn (\w+)", "\n".join(lines[: line + 1]))[-1]
 
 
-def fact(folder, path, law):
-    """The law, or the function whose proof it is a step of."""
-    place = Path(path).relative_to(folder)
-    if place.name == "Proof.antt":
-        return f"the contract of `{place.parent.name}`"
-    return f"`{law}`, {place.with_suffix('')}"
-
-
-def facts(folder):
-    """What the log of an edit says does not hold, in the log's order. A law that only builds on another refused one is passed over."""
-    log = (folder / ".log").read_text()
-    # a log names its files by the path of the run that made it
-    folder_then = re.search(r"\S*/target/must-fail/\w+/\w+(?=/(?:src|specs|proofs)/)", log)[0]
-    found = [fact(folder_then, path, law) for path, _, law, message in ERROR.findall(log) if "was not admitted" not in message]
-    for path, line in OPEN.findall(log):
-        source = folder / Path(path).relative_to(folder_then)
-        found.append(f"the contract of `{function_at(source, int(line))}`")
-    return list(dict.fromkeys(found))
+def fact(crate, said):
+    """What the check says does not hold, given the folder of the crate and what the log says of the edit; None where that is no fact."""
+    said = said.removeprefix(REFUSED)
+    if error := ERROR.match(said):
+        place = Path(error[1])
+        if place.name in PARTS:
+            return f"the contract of `{place.parent.name}`"
+        return f"`{error[2]}`, {place.with_suffix('')}"
+    if left := OPEN.match(said):
+        return f"the contract of `{function_at(crate / left[1], int(left[2]))}`"
+    return None
 
 
 def kind_of(source, old):
@@ -49,8 +54,7 @@ def kind_of(source, old):
     folder = source.parts[source.parts.index("crates") + 2]
     if folder != "src":
         return {"specs": "definition", "proofs": "proof"}[folder]
-    # code never speaks of what a lent argument holds `now`, nor of the names that a ghost use brings
-    return "contract" if "now (" in old or old.startswith("ghost use") else "code"
+    return "contract" if CLAUSE.search(old) else "code"
 
 
 def changes(path):
@@ -65,11 +69,11 @@ def changes(path):
 
 
 def edits(root):
-    """Each edit's name, what it changes, what its first line says it gets wrong, and the folder of its log."""
+    """Each edit's name, what it changes, what its first line says it gets wrong, and the folder of its crate."""
     for path in sorted(root.glob("crates/*/must-fail/*.edit")):
-        crate = path.parts[-3]
+        crate = path.parent.parent
         wrong = path.read_text().splitlines()[0].removeprefix("# ")
-        yield f"{crate}/{path.stem}", changes(path), wrong, root / "target/must-fail" / crate / path.stem
+        yield f"{crate.name}/{path.stem}", changes(path), wrong, crate
 
 
 def rows(root):
@@ -78,70 +82,105 @@ def rows(root):
     return ROW.findall(path.read_text()) if path.exists() else []
 
 
-def table(root):
-    """The rows as the logs have them."""
+def logged(log):
+    """What the log says of each edit. One that was tried twice has what was said last."""
+    return {f"{crate}/{name}": said for crate, name, said in LINE.findall(log)}
+
+
+def table(root, log):
+    """The rows as the log has them."""
+    said = logged(log)
     named = {row[0]: row[3] for row in rows(root)}
-    for name, changed, wrong, folder in edits(root):
-        found = facts(folder)
-        yield name, changed, wrong, named[name] if named.get(name) in found else found[0]
+    for name, changed, wrong, crate in edits(root):
+        found = fact(crate, said[name]) if name in said else named.get(name)
+        yield name, changed, wrong, found or said.get(name, "not tried yet")
 
 
-def complaints(found, stated):
-    """What is wrong with the rows, given each edit's name, what it changes, its first line and its facts."""
+def complaints(found, said, stated):
+    """What is wrong with the rows or with how an edit was refused, given the edits, what the log says of them, and the rows."""
     names = [row[0] for row in stated]
     for name in sorted(set(names) - {edit[0] for edit in found}):
         yield f"{name}: in the document, and no edit"
-    for name, changed, wrong, its_facts in found:
+    for name, changed, wrong, crate in found:
+        if name not in said:
+            yield f"{name}: not tried; `rt must-fail {crate.name}` tries it"
+            continue
+        refused_at = fact(crate, said[name]) if said[name].startswith(REFUSED) else None
+        if refused_at is None:
+            yield f"{name}: refused for no fact that a row could name: {said[name]}"
+            continue
         if names.count(name) != 1:
             yield f"{name}: {names.count(name)} rows in the document"
             continue
         row = stated[names.index(name)]
         if row[1:3] != (changed, wrong):
             yield f"{name}: the document says {row[1:3]} of it, and the edit {(changed, wrong)}"
-        if row[3] not in its_facts:
-            yield f"{name}: the document has it refused at {row[3]}, and its log at {its_facts}"
+        if row[3] != refused_at:
+            yield f"{name}: the document has it refused at {row[3]}, and the log at {refused_at}"
 
 
-def logged(root):
-    return [(name, changed, wrong, facts(folder)) for name, changed, wrong, folder in edits(root)]
-
-
-def check(root):
-    """Whether the document says what the last run found."""
-    missing = [edit[0] for edit in edits(root) if not (edit[3] / ".log").exists()]
-    for name in missing:
-        print(f"{name}: not tried yet; `rt must-fail {name.split('/')[0]}` tries it")
-    found = [] if missing else logged(root)
-    wrongs = list(complaints(found, rows(root)))
+def check(root, log):
+    """Whether the document says what the log has."""
+    found = list(edits(root))
+    wrongs = list(complaints(found, logged(log), rows(root)))
     for complaint in wrongs:
         print(complaint)
     print(f"{len(found)} edits")
     return bool(found) and not wrongs
 
 
-def itself(root):
-    """Whether each wrong document is found, made from the logs by changing one row."""
-    found = logged(root)
-    right = [(*edit[:3], edit[3][0]) for edit in found]
+def itself(root, log):
+    """Whether each wrong document and each wrong log is found, made from the right ones by changing one row or one line."""
+    found, said = list(edits(root)), logged(log)
+    right = list(table(root, log))
     passed = failed = 0
+
+    def tried(name, what, wrongs):
+        nonlocal passed, failed
+        if any(complaint.startswith(f"{name}: ") for complaint in wrongs):
+            passed += 1
+        else:
+            failed += 1
+            print(f"not found of {name}: {what}")
+
     for k, row in enumerate(right):
+        name = row[0]
         others = [(*row[:i], row[i] + ".", *row[i + 1 :]) for i in range(4)]
         for wrong in [], [row] * 2, *([other] for other in others):
-            if any(complaint.startswith(row[0]) for complaint in complaints(found, right[:k] + wrong + right[k + 1 :])):
-                passed += 1
-            else:
-                failed += 1
-                print(f"not found: {wrong} for {row}")
-    failed += bool(list(complaints(found, right)))
+            tried(name, wrong, complaints(found, said, right[:k] + wrong + right[k + 1 :]))
+        first = said.get(name, "").removeprefix(REFUSED)
+        for wrong in (
+            "NOT REFUSED: the crate is still proved with this edit",
+            "NOT TRIED: its check was killed",
+            "BAD EDIT: an 'old:' text is in src/lib.rt 0 times, and not once",
+            f"refused, as it must be (only because a proof file names what the edit took away): {first}",
+            f"refused, as it must be (only by a limit of the prover): {first}",
+            "refused, as it must be",
+            f"{REFUSED}./proofs/Elsewhere.antt:1:1: error: `elsewhere`: expected another type",
+            f"{REFUSED}./proofs/elsewhere/Answers.antt:1:1: error: `returns`: expected another type",
+        ):
+            tried(name, wrong, complaints(found, {**said, name: wrong}, right))
+        tried(name, "no line", complaints(found, {edit: line for edit, line in said.items() if edit != name}, right))
+    for complaint in complaints(found, said, right):
+        failed += 1
+        print(complaint)
     print(f"{passed} passed, {failed} failed")
     return passed > 0 and failed == 0
 
 
-def show(root):
-    for row in table(root):
+def show(root, log):
+    for row in table(root, log):
         print("| " + " | ".join(row) + " |")
     return True
 
 
+def main(what, root, log):
+    log = Path(log)
+    if not log.exists():
+        print(f"there is no {log}: .ci/run writes it, or `rt must-fail`, given it as its standard output")
+        return False
+    return {"table": show, "check": check, "itself": itself}[what](Path(root), log.read_text())
+
+
 if __name__ == "__main__":
-    sys.exit(0 if {"table": show, "check": check, "itself": itself}[sys.argv[1]](Path(sys.argv[2])) else 1)
+    sys.exit(0 if main(*sys.argv[1:]) else 1)
