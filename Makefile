@@ -1,7 +1,7 @@
 # Builds, checks and installs the program, the two archives, the header and the manual page. rt knows what has changed, so no rule here is about the
 # crates.
 #
-#     make                               proves and builds, under target/
+#     make                               proves and builds, in the folders out of the three crates
 #     make check                         the gate
 #     make install PREFIX=/usr/local     what make has built; DESTDIR=FOLDER goes before every path, for a package
 #     make uninstall PREFIX=/usr/local   takes away what make install, with the same words, has put there
@@ -16,19 +16,23 @@ pkgconfigdir = $(libdir)/pkgconfig
 # The dot stands for the number sign, which not every version of make reads alike here.
 version = $(shell sed -n 's/^.define PERMITS_VERSION "\(.*\)"$$/\1/p' include/permits.h)
 
-built = target/bin/permits target/staticlib/libpanel.a target/staticlib/libconsole.a
+program = crates/permits/out/permits
+panel = crates/panel/out/libpanel.a
+console = crates/console/out/libconsole.a
+built = $(program) $(panel) $(console)
 
 .PHONY: all check install uninstall clean
 
+# rt builds a program where it runs it: on the session, whose text stands beside it.
 all:
-	rt check permits
-	rt staticlib panel
-	rt staticlib console
+	cd crates/permits && rt run <stdin | cmp - stdout
+	cd crates/panel && rt lib
+	cd crates/console && rt lib
 
 check:
 	.ci/run
 
-# install does not depend on all: rt staticlib proves its crate each time, and who installs may have no rt.
+# install does not depend on all: rt lib compiles each time, and who installs may have no rt.
 $(built):
 	@echo "$@ is missing: run make first" >&2; false
 
@@ -45,9 +49,9 @@ endef
 # In a folder that many programs share, libpanel.a and libconsole.a would not say whose they are. pkg-config spares its users the longer names.
 install: $(built)
 	install -d "$(DESTDIR)$(bindir)" "$(DESTDIR)$(libdir)" "$(DESTDIR)$(includedir)" "$(DESTDIR)$(mandir)/man1" "$(DESTDIR)$(pkgconfigdir)"
-	install -m 755 target/bin/permits "$(DESTDIR)$(bindir)/permits"
-	install -m 644 target/staticlib/libpanel.a "$(DESTDIR)$(libdir)/libpermits-panel.a"
-	install -m 644 target/staticlib/libconsole.a "$(DESTDIR)$(libdir)/libpermits-console.a"
+	install -m 755 $(program) "$(DESTDIR)$(bindir)/permits"
+	install -m 644 $(panel) "$(DESTDIR)$(libdir)/libpermits-panel.a"
+	install -m 644 $(console) "$(DESTDIR)$(libdir)/libpermits-console.a"
 	install -m 644 include/permits.h "$(DESTDIR)$(includedir)/permits.h"
 	$(call fill,permits.pc.in,$(pkgconfigdir)/permits-panel.pc,panel,the batch and the section call for a panel)
 	$(call fill,permits.pc.in,$(pkgconfigdir)/permits-console.pc,console,the calls on a record that a console keeps)
@@ -63,4 +67,4 @@ uninstall:
 	rm -f "$(DESTDIR)$(mandir)/man1/permits.1"
 
 clean:
-	rm -rf target
+	rm -rf target crates/*/out

@@ -1,8 +1,8 @@
 /* 01's session on a console: the record is kept here and lent to each call. The first five requests are calls, the
  * others one queue; then every gate is asked for the rights held.
  *
- *     gcc -std=c11 -Iinclude examples/console.c target/staticlib/libconsole.a -o target/console
- *     target/console examples/session.plant
+ *     gcc -std=c11 -Iinclude examples/console.c crates/console/out/libconsole.a -o console
+ *     ./console examples/session.plant
  */
 #include "permits.h"
 

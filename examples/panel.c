@@ -1,7 +1,7 @@
 /* A panel: one batch call on a file of requests, then its answers and the rights held.
  *
- *     gcc -std=c11 -Iinclude examples/panel.c target/staticlib/libpanel.a -o target/panel
- *     target/panel examples/session.plant examples/session.requests
+ *     gcc -std=c11 -Iinclude examples/panel.c crates/panel/out/libpanel.a -o panel
+ *     ./panel examples/session.plant examples/session.requests
  */
 #include "permits.h"
 

@@ -2,8 +2,9 @@
  * the four calls and the queue.
  *
  * A panel links libpanel.a and calls permits_batch and permits_section. A console links libconsole.a, keeps a record,
- * opens it with a plant file and makes its calls on it. `make` writes the archives to target/staticlib/; installed, they
- * are libpermits-panel.a and libpermits-console.a, which pkg-config knows as permits-panel and permits-console.
+ * opens it with a plant file and makes its calls on it. `make` writes the archives to the folders out of crates/panel and
+ * crates/console; installed, they are libpermits-panel.a and libpermits-console.a, which pkg-config knows as
+ * permits-panel and permits-console.
  *
  * Any bytes can be handed over, as a file, as requests and as a record: every input has its answer, and no function
  * reads or writes outside what it is given. What C cannot check is the caller's part: a pointer is not null, also where

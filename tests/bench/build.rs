@@ -1,9 +1,9 @@
 //! Where the archives of the monitor are.
 
 fn main() {
-    let archives = concat!(env!("CARGO_MANIFEST_DIR"), "/../../target/staticlib");
-    println!("cargo:rustc-link-search=native={archives}");
     for archive in ["panel", "console"] {
-        println!("cargo:rerun-if-changed={archives}/lib{archive}.a");
+        let folder = format!("{}/../../crates/{archive}/out", env!("CARGO_MANIFEST_DIR"));
+        println!("cargo:rustc-link-search=native={folder}");
+        println!("cargo:rerun-if-changed={folder}/lib{archive}.a");
     }
 }

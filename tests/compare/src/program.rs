@@ -15,8 +15,8 @@ use std::process::{Child, Command, Stdio};
 use std::thread;
 use std::time::Duration;
 
-/// Where `rt check permits` puts the program, seen from the repository.
-const PROGRAM_FILE: &str = "target/bin/permits";
+/// Where `rt run` puts the program, seen from the repository.
+const PROGRAM_FILE: &str = "crates/permits/out/permits";
 
 /// Input is given byte by byte up to this length, or at one of `SIZES`.
 const BYTE_BY_BYTE: usize = 6000;
@@ -27,7 +27,7 @@ const SIZES: [usize; 17] =
     [0, 1, 2, 21, 22, 23, 24, 25, 131, 132, 133, 137, 65_532, 65_535, 65_536, 65_537, 131_072];
 
 /// What is to be done where there is none.
-pub const MISSING: &str = "target/bin/permits is missing; `rt check permits` makes it";
+pub const MISSING: &str = "crates/permits/out/permits is missing; `make` builds it";
 
 /// Whether there is a program to compare.
 pub fn is_built() -> bool {
