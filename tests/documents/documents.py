@@ -75,12 +75,24 @@ def stack():
 
 
 def paths():
-    """Each path that a document names, from the repository's root, is there. A part in capitals stands for any name."""
+    """Each path that a document names, from the repository's root, is there. A part in capitals stands for any name; what a build leaves in the
+    folder out of a crate need not be there."""
     named = re.compile(r"(?<![\w/.~-])(?:crates|tests|docs|include|examples|install)/[\w./*-]*[\w*]")
     for document in DOCUMENTS:
         for path in sorted(set(named.findall(document.read_text()))):
-            if not any(Path(".").glob(re.sub(r"\b[A-Z]+(?=/|$)", "*", path))):
+            place = re.sub(r"^(crates/\w+)/out/.*", r"\1", re.sub(r"\b[A-Z]+(?=/|$)", "*", path))
+            if not any(Path(".").glob(place)):
                 yield f"{document} names {path}"
+
+
+def names():
+    """Each name of several words that a document has between backquotes is one of a crate's sources, definitions or laws, or of the header."""
+    files = [path for part in ("src", "specs", "proofs") for path in Path("crates").glob(f"*/{part}/**/*.*t") if path.is_file()]
+    there = {name for path in [*files, Path("include/permits.h")] for name in re.findall(r"[A-Za-z][\w'-]*", path.read_text())}
+    for document in DOCUMENTS:
+        for name in sorted(set(re.findall(r"`([A-Za-z][\w'-]*)`", document.read_text())) - there):
+            if re.search(r"[a-z\d][A-Z]|\w[_-]\w", name):
+                yield f"{document} names {name}"
 
 
 def crates():
@@ -91,7 +103,7 @@ def crates():
         yield f"README.md has {shown}, and crates.txt {listed}"
 
 
-CHECKS = [session, quoted, numbers, calls, stack, paths, crates]
+CHECKS = [session, quoted, numbers, calls, stack, paths, names, crates]
 
 
 def main(name):
