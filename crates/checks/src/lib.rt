@@ -1,5 +1,6 @@
 // Opening's checks 3 and 7 to 12 in their order, and the number that refuses a plant.
 #![tactic(auto)]
+
 ghost use Rattle.std.specs.Prelude.{◌≡◌, ◌<◌, ◌≤◌, get_or};
 ghost use Rattle.base.specs.Below.{anyBelow};
 ghost use Rattle.layout.specs.Layout.{sections};
@@ -108,6 +109,7 @@ fn lattices_refusal(p: Plant) -> u8
 
 // The number that refuses a plant record, or 0. The two tests say whether the bytes of the file that are always zero are: those of the
 // lattice records, and those of the others. A record has no such bytes.
+#[tactic(auto, unfolding(plant::specs::Checks::plantRefusal, plant::specs::Checks::latticesRefusal, plant::specs::Checks::itemsRefusal))]
 pub fn refusal(p: Plant, zeros7: bool, zeros10: bool) -> u8
     ensures { result ≡ plantRefusal zeros7 zeros10 p }
 {

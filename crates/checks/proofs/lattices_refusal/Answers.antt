@@ -1,0 +1,7 @@
+-- The table has the refusals of the lattices.
+use Rattle.std.proofs.Common.{◌∙◌}
+use Rattle.plant.proofs.Sequence.{numbers-chain}
+use Rattle.checks.proofs.lattices_refusal.Goals as goal
+
+pub returns : goal.returns
+returns c = c.first_number.ensures ∙ numbers-chain _ c.requires.lattices-fit c.refusals-numbers.ensures
