@@ -1,6 +1,7 @@
 // One request by itself, on a record that has passed test 20 and is lent in its parts. It keeps nothing: a set, a stop and a gate make nothing that
 // they do not read.
 #![tactic(auto)]
+
 ghost use Rattle.std.specs.Prelude.{◌≡◌, true};
 ghost use Rattle.rules.specs.declared.Monitor.{Monitor};
 ghost use Rattle.rules.specs.Rules.{start};
@@ -33,9 +34,9 @@ fn start_alone<'a>(
     t: u8,
 ) -> u8
     ghost m: { Monitor }
-    requires chosen_value { recordOf (lentPlant counts sizes.now sets.now lattice.now requirement.now group.now level.now names.now
+    requires lent { recordOf (lentPlant counts sizes.now sets.now lattice.now requirement.now group.now level.now names.now
         rights.now may.now) levels.now running.old chosen.old ≡ m }
-    requires m_value { intact m.plant m ≡ true }
+    requires passes_test_20 { intact m.plant m ≡ true }
     ensures { Does m (start s t) result (withTask m running.new chosen.new) }
 {
     let early = start_early(counts, may, running, s, t);
@@ -82,9 +83,9 @@ pub fn call_at<'a>(
     d: u8,
 ) -> u8
     ghost m: { Monitor }
-    requires chosen_value { recordOf (lentPlant counts sizes.now sets.now lattice.now requirement.now group.now level.now names.now
+    requires lent { recordOf (lentPlant counts sizes.now sets.now lattice.now requirement.now group.now level.now names.now
         rights.now may.now) levels.old running.old chosen.old ≡ m }
-    requires m_value { intact m.plant m ≡ true }
+    requires passes_test_20 { intact m.plant m ≡ true }
     ensures { Does m (call_by kind a b c d) result (recordOf m.plant levels.new running.new chosen.new) }
 {
     if 2 < kind {
