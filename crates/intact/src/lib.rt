@@ -1,5 +1,6 @@
 // Test 20: whether a monitor's record can be relied on. A record can come from anywhere, so nothing is asked of it beforehand.
 #![tactic(auto)]
+
 ghost use Rattle.std.specs.Prelude.{◌≡◌, true};
 ghost use Rattle.base.specs.Below.{all_below};
 ghost use Rattle.plant.specs.Checks.{Fits, entryBelow};
@@ -20,7 +21,7 @@ fn parts_ok<'a>(
     chosen: &'a [u8; 64],
 ) -> bool
     requires fits { Fits p }
-    requires requirements_value { all_below (entryBelow p.requirement_lattice 8) p.requirements ≡ true }
+    requires lattices_in { all_below (entryBelow p.requirement_lattice 8) p.requirements ≡ true }
     ensures { result ≡ parts_in p levels.now running.now chosen.now }
 {
     let requirements = p.requirements as usize;
