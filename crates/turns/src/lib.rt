@@ -1,6 +1,7 @@
 // One request of a list, on a record that has passed test 20 and is lent in its parts. The list keeps beside the record what the next request reads.
 // Whoever makes a request knows that the record passes: it is the fresh one of an accepted plant, and no call makes it fail.
 #![tactic(auto)]
+
 ghost use Rattle.std.specs.Prelude.{◌≡◌, true};
 ghost use Rattle.rules.specs.declared.Monitor.{Monitor};
 ghost use Rattle.rules.specs.Record.{recordOf, intact};
@@ -38,14 +39,14 @@ pub fn turn<'a>(
     d: u8,
 ) -> u8
     ghost m: { Monitor }
-    requires chosen_value { recordOf (lentPlant counts sizes.now sets.now lattice.now requirement.now group.now level.now names.now
+    requires lent { recordOf (lentPlant counts sizes.now sets.now lattice.now requirement.now group.now level.now names.now
         rights.now may.now) levels.old running.old chosen.old ≡ m }
-    requires m_value { intact m.plant m ≡ true }
+    requires passes_test_20 { intact m.plant m ≡ true }
     requires tables { Tables m.plant made.old needs.old }
     requires granted { Granted m.plant m.running granted.old }
     ensures does { Does m (call_by kind a b c d) result (recordOf m.plant levels.new running.new chosen.new) }
-    ensures tables_2 { Tables m.plant made.new needs.new }
-    ensures granted_2 { Granted m.plant running.new granted.new }
+    ensures tables { Tables m.plant made.new needs.new }
+    ensures granted { Granted m.plant running.new granted.new }
 {
     if 2 < kind {
         if kind == 3 {
