@@ -1,5 +1,6 @@
 // A list of requests served from the fresh monitor, on lent arrays: the record is never copied.
 #![tactic(auto)]
+
 ghost use Rattle.std.specs.Prelude.{◌≡◌, true, ◌+◌, ◌*◌, ◌≤◌, length};
 ghost use Rattle.base.specs.Overlay.{overlay};
 ghost use Rattle.plant.specs.Checks.{plantRefusal};
@@ -35,10 +36,10 @@ fn request_at(bytes: &[u8], i: usize) -> [u8; 5]
 
 // The n answers, from the fresh monitor, and the changing parts after the last request.
 pub fn serve(p: Plant, bytes: &[u8], n: usize, out: &mut [u8]) -> Parts
-    requires p_value { plantRefusal true true p ≡ 0 }
-    requires n_in_bounds { (n * 5 ≤ length bytes.now) × (n ≤ length out.old) }
-    ensures chosen_value { recordOf p result.levels result.running result.chosen ≡ ends (fresh p) (calls_of bytes.now n) }
-    ensures out_after { out.new ≡ overlay out.old 0 (runs (fresh p) (calls_of bytes.now n)) }
+    requires plant_passes { plantRefusal true true p ≡ 0 }
+    requires in_range { (n * 5 ≤ length bytes.now) × (n ≤ length out.old) }
+    ensures record_after { recordOf p result.levels result.running result.chosen ≡ ends (fresh p) (calls_of bytes.now n) }
+    ensures answers { out.new ≡ overlay out.old 0 (runs (fresh p) (calls_of bytes.now n)) }
 {
     let mut levels = [255u8; 1024];
     let mut running = [255u8; 8];

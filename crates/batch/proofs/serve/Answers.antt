@@ -1,0 +1,47 @@
+-- Each turn is the run's next call.
+use Rattle.std.proofs.Common.{◌≡◌, refl, arith}
+use Rattle.std.proofs.Math.ListN.{length-set}
+use Rattle.plant.proofs.Sound.{sound-law}
+use Rattle.plant.proofs.Valid.{valid}
+use Rattle.calls.proofs.Made.{none_made}
+use Rattle.calls.proofs.Grants.{none-granted}
+use Rattle.calls.proofs.Served.{still-intact, next-record, next-out, first-record, first_out}
+use Rattle.batch.proofs.serve.Goals as goal
+
+pub loop-i-init : goal.loop-i-init
+loop-i-init c =
+    let p = c.args.p in
+    record {
+      at_most = omega arith;
+      size = refl;
+      state = first-record p c.args.bytes.now;
+      answers = first_out p c.args.bytes.now c.args.out.now;
+      tables = none_made _;
+      grants = none-granted p (valid p ((sound-law p).0 c.requires.plant_passes)).counts.skids-fit;
+    }
+
+pub turn-requires : goal.turn-requires
+turn-requires c =
+    let v = c.loop-i.invariant in
+    (refl, (still-intact c.args.p c.requires.plant_passes c.args.bytes.now c.loop-i.i v.state, (v.tables, v.grants)))
+
+pub loop-i-preserved : goal.loop-i-preserved
+loop-i-preserved c =
+    let p = c.args.p in
+    let v = c.loop-i.invariant in
+    let bytes = c.args.bytes.now in
+    let h = rw c.request_at-r.ensures at c.turn.ensures.does in
+    record {
+      at_most = omega arith;
+      size = simp length-set v.size;
+      state = next-record p c.requires.plant_passes bytes c.loop-i.i v.state h.leaves;
+      answers = next-out p c.requires.plant_passes bytes c.loop-i.i v.state c.args.out.now (omega arith) v.answers h.answers;
+      tables = c.turn.ensures.tables;
+      grants = c.turn.ensures.granted;
+    }
+
+pub returns : goal.returns
+returns c =
+    let v = c.loop-i.invariant in
+    let e : c.loop-i.i ≡ c.args.n = omega arith in
+    rw (← e) (record { record_after = v.state; answers = v.answers })
