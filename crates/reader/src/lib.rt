@@ -1,5 +1,6 @@
 // The reader of plant files: any bytes give opening's number, and the plant where it is 0.
 #![tactic(auto)]
+
 ghost use Rattle.std.specs.Prelude.{◌≡◌, ◌<◌};
 ghost use Rattle.layout.specs.Layout.{sections, width};
 ghost use Rattle.layout.specs.Header.{headerRefusal};
@@ -41,14 +42,16 @@ fn no_plant() -> Plant
 
 // Whether the zero byte of each record of a section is zero.
 fn zeros_in(file: &[u8], kind: usize) -> bool
-    requires file_value { (headerRefusal file.now ≡ 0) × (kind < sections) }
-    requires zero_byte_bound { zeroByte < width kind }
+    requires file_ok { headerRefusal file.now ≡ 0 }
+    requires kind_in { kind < sections }
+    requires zero_byte_in { zeroByte < width kind }
     ensures { result ≡ zeros file.now kind }
 {
     let n = count_of(file, kind);
     zeros_at(part_of(file, kind), width_of(kind), ZERO_BYTE, n)
 }
 
+#[tactic(auto, unfolding(opening::specs::Reading::otherZeros))]
 fn other_zeros(file: &[u8]) -> bool
     requires { headerRefusal file.now ≡ 0 }
     ensures { result ≡ otherZeros file.now }
