@@ -1,5 +1,6 @@
 // The batch call: plant bytes and request bytes, and the answers and the list of rights in the caller's buffer.
 #![tactic(auto)]
+
 ghost use Rattle.std.specs.Prelude.{◌≡◌, true, ◌+◌, ◌*◌, ◌≤◌, length};
 ghost use Rattle.base.specs.Overlay.{overlay};
 ghost use Rattle.plant.specs.Checks.{plantRefusal};
@@ -14,8 +15,8 @@ use reader::read;
 
 // The n answers, and behind them the list of the rights held.
 fn write_outcome(p: Plant, requests: &[u8], n: usize, out: &mut [u8])
-    requires p_value { plantRefusal true true p ≡ 0 }
-    requires n_in_bounds { (n * 5 ≤ length requests.now) × (n + 577 ≤ length out.old) }
+    requires plant_passes { plantRefusal true true p ≡ 0 }
+    requires in_range { (n * 5 ≤ length requests.now) × (n + 577 ≤ length out.old) }
     ensures { out.new ≡ overlay out.old 0 (outcome p (calls_of requests.now n)) }
 {
     let parts = serve(p, requests, n, out);
