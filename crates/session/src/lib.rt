@@ -1,5 +1,6 @@
 // The program's input as a plant and requests, and the text of what the batch makes of them.
 #![tactic(auto)]
+
 ghost use Rattle.std.specs.Prelude.{◌<◌, ◌≤◌, length};
 ghost use Rattle.base.specs.Overlay.{Wrote};
 ghost use Rattle.printing.specs.Printed.{batchLines, printed, PrintsRead};
