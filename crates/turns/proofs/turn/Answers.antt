@@ -16,14 +16,20 @@ returns-then-kind-gt2-clause-does g c =
 pub grant_row-requires : goal.grant_row-requires
 grant_row-requires g c =
     let f = (plant-valid g.m c.requires.1.0).counts in
-    start-items g.m c.requires.1.1.1 c.args.a c.args.b f.skids-fit f.tasks-fit {left = withTask g.m c.start_at-number.new.running c.start_at-number.new.chosen} c.start_at-number.ensures.does c.if-number-eq0.true
+    let l =
+    start-items g.m c.requires.1.1.1 c.args.a c.args.b f.skids-fit f.tasks-fit
+    {left = withTask g.m c.start_at-number.new.running c.start_at-number.new.chosen} c.start_at-number.ensures.does c.if-number-eq0.true in
+    (omega arith, omega arith)
 
 pub returns-then-number-eq0-clause-granted : goal.returns-then-number-eq0-clause-granted
 returns-then-number-eq0-clause-granted g c =
     let f = (plant-valid g.m c.requires.1.0).counts in
     let d = c.start_at-number.ensures.does in
-    let l = start-items g.m c.requires.1.1.1 c.args.a c.args.b f.skids-fit f.tasks-fit {left = withTask g.m c.start_at-number.new.running c.start_at-number.new.chosen} d c.if-number-eq0.true in
-    rw (c.grant_row.ensures g.m.plant (rw (← c.requires.0))) (start-granted g.m c.requires.1.1.1 c.args.a c.args.b l {left = withTask g.m c.start_at-number.new.running c.start_at-number.new.chosen} d c.if-number-eq0.true)
+    let l =
+    start-items g.m c.requires.1.1.1 c.args.a c.args.b f.skids-fit f.tasks-fit
+    {left = withTask g.m c.start_at-number.new.running c.start_at-number.new.chosen} d c.if-number-eq0.true in
+    rw (c.grant_row.ensures g.m.plant (rw (← c.requires.0)))
+    (start-granted g.m c.requires.1.1.1 c.args.a c.args.b l {left = withTask g.m c.start_at-number.new.running c.start_at-number.new.chosen} d c.if-number-eq0.true)
 
 pub returns-else-number-eq0-clause-granted : goal.returns-else-number-eq0-clause-granted
 returns-else-number-eq0-clause-granted g c = start-refused g.m c.requires.1.1.1 c.args.a c.args.b c.start_at-number.ensures.does c.if-number-eq0.false
