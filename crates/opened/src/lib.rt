@@ -1,5 +1,6 @@
 // Opening a plant file, by value: the fresh monitor, or a record of zeros.
 #![tactic(auto)]
+
 ghost use Rattle.std.specs.Prelude.{◌≡◌, replicate};
 ghost use Rattle.rules.specs.Record.{fresh};
 ghost use Rattle.requests.specs.Calls.{opened_of};
