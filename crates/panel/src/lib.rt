@@ -1,5 +1,6 @@
 // The panel's calls, for a program in C: the batch, and where a section of a plant file stands.
 #![tactic(auto)]
+
 ghost use Rattle.std.specs.Prelude.{◌≡◌, length};
 ghost use Rattle.layout.specs.Header.{sectionPlace};
 ghost use Rattle.outcome.specs.Batch.{batchRefusal, batchOut};
