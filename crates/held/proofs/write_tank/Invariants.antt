@@ -1,4 +1,4 @@
--- The first i of the tank's rights that are held are written.
+-- Of the rights before the i-th, those that are held on the tank are written.
 use Rattle.std.proofs.Common.{get_or}
 use Rattle.plant.specs.Right.{allRights}
 use Rattle.calls.specs.Lent.{HeldReads}
