@@ -1,5 +1,6 @@
 // A request by value on a record that has passed test 20.
 #![tactic(auto)]
+
 ghost use Rattle.std.specs.Prelude.{◌≡◌, true};
 ghost use Rattle.rules.specs.Record.{intact};
 ghost use Rattle.requests.specs.Calls.{step_of};
