@@ -1,5 +1,6 @@
 // The monitor's calls by value: set, start, stop and gate, and a request of any kind. Each tests the record, whoever made it, before anything else.
 #![tactic(auto)]
+
 ghost use Rattle.std.specs.Prelude.{◌≡◌};
 ghost use Rattle.rules.specs.Rules.{set, start, stop, gate};
 ghost use Rattle.calls.specs.Lent.{call_by};
