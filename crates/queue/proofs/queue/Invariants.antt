@@ -1,0 +1,16 @@
+-- After i requests the record is that of their calls, and the buffer begins with their answers. A record that is served passes test 20.
+use Rattle.std.proofs.Common.{◌≡◌, ◌-◌, ◌<◌, ◌≤◌, true}
+use Rattle.rules.specs.Record.{intact}
+use Rattle.queue.proofs.Turns.{state, buffer}
+use Rattle.queue.proofs.queue.Given as goal
+
+abbrev pub invariant-loop-i : goal.invariant-loop-i
+invariant-loop-i l = record {
+  within : l.i ≤ l.admitted.count;
+  record_is : l.cur ≡ state l.fn.m l.rs l.fn.out l.i;
+  buffer_is : l.out ≡ buffer l.fn.m l.rs l.fn.out l.i;
+  passes : 0 < l.admitted.count → intact l.cur.plant l.cur ≡ true;
+}
+
+abbrev pub decreases-loop-i : goal.decreases-loop-i
+decreases-loop-i l = l.admitted.count - l.i
