@@ -4,7 +4,7 @@
 ghost use Rattle.std.specs.Prelude.{◌≡◌, ◌<◌};
 ghost use Rattle.base.specs.Below.{all_below};
 ghost use Rattle.lattice.specs.Levels.{Layout, ordered};
-ghost use Rattle.lattice.specs.Sets.{withSets, underIn, Strict, raised, isWithin};
+ghost use Rattle.lattice.specs.Sets.{with_sets, under_in, Strict, raised, is_within};
 
 use sets::{has, with_set, without_one};
 
@@ -34,7 +34,7 @@ fn add_above(further: &mut [u16; 16], strict: &[u16; 16], j: usize, x: u16)
 }
 
 fn all_within<'a>(further: &'a [u16; 16], strict: &'a [u16; 16]) -> bool
-    ensures { result ≡ all_below (isWithin further.now strict.now) 16 }
+    ensures { result ≡ all_below (is_within further.now strict.now) 16 }
 {
     let mut i: usize = 0;
     while i < 16 {
@@ -49,8 +49,8 @@ fn all_within<'a>(further: &'a [u16; 16], strict: &'a [u16; 16]) -> bool
 // 8: the levels are in order. Each is under itself, and what lies above the levels strictly above it lies strictly above it: whole sets are
 // united and compared, and no single pair of levels. A level that is not used is in no set.
 pub fn in_order(s: &[u16; 16], n: usize) -> bool
-    requires { Layout (withSets n s.now) }
-    ensures { result ≡ ordered n (underIn s.now) }
+    requires { Layout (with_sets n s.now) }
+    ensures { result ≡ ordered n (under_in s.now) }
 {
     let strict = strict_sets(s);
     let mut further = [0u16; 16];

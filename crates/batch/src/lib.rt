@@ -3,10 +3,10 @@
 
 ghost use Rattle.std.specs.Prelude.{◌≡◌, true, ◌+◌, ◌*◌, ◌≤◌, length};
 ghost use Rattle.base.specs.Overlay.{overlay};
-ghost use Rattle.plant.specs.Checks.{plantRefusal};
-ghost use Rattle.rules.specs.Record.{fresh, recordOf};
+ghost use Rattle.plant.specs.Checks.{plant_refusal};
+ghost use Rattle.rules.specs.Record.{fresh, record_of};
 ghost use Rattle.rules.specs.Run.{runs, ends};
-ghost use Rattle.calls.specs.RequestBytes.{requestAt, calls_of};
+ghost use Rattle.calls.specs.RequestBytes.{request_at, calls_of};
 
 use calls::PlantCounts;
 use plant::Plant;
@@ -22,7 +22,7 @@ pub struct Parts {
 
 fn request_at(bytes: &[u8], i: usize) -> [u8; 5]
     requires { i * 5 + 5 ≤ length bytes.now }
-    ensures { result ≡ requestAt bytes.now i }
+    ensures { result ≡ request_at bytes.now i }
 {
     let k = i * 5;
     [
@@ -36,9 +36,9 @@ fn request_at(bytes: &[u8], i: usize) -> [u8; 5]
 
 // The n answers, from the fresh monitor, and the changing parts after the last request.
 pub fn serve(p: Plant, bytes: &[u8], n: usize, out: &mut [u8]) -> Parts
-    requires plant_passes { plantRefusal true true p ≡ 0 }
+    requires plant_passes { plant_refusal true true p ≡ 0 }
     requires in_range { (n * 5 ≤ length bytes.now) × (n ≤ length out.old) }
-    ensures record_after { recordOf p result.levels result.running result.chosen ≡ ends (fresh p) (calls_of bytes.now n) }
+    ensures record_after { record_of p result.levels result.running result.chosen ≡ ends (fresh p) (calls_of bytes.now n) }
     ensures answers { out.new ≡ overlay out.old 0 (runs (fresh p) (calls_of bytes.now n)) }
 {
     let mut levels = [255u8; 1024];

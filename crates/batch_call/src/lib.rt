@@ -3,9 +3,9 @@
 
 ghost use Rattle.std.specs.Prelude.{◌≡◌, true, ◌+◌, ◌*◌, ◌≤◌, length};
 ghost use Rattle.base.specs.Overlay.{overlay};
-ghost use Rattle.plant.specs.Checks.{plantRefusal};
+ghost use Rattle.plant.specs.Checks.{plant_refusal};
 ghost use Rattle.calls.specs.RequestBytes.{calls_of};
-ghost use Rattle.outcome.specs.Batch.{refusalBy, outcome, batchRefusal, batchOut};
+ghost use Rattle.outcome.specs.Batch.{refusal_by, outcome, batch_refusal, batch_out};
 
 use batch::serve;
 use calls::PlantCounts;
@@ -15,7 +15,7 @@ use reader::read;
 
 // The n answers, and behind them the list of the rights held.
 fn write_outcome(p: Plant, requests: &[u8], n: usize, out: &mut [u8])
-    requires plant_passes { plantRefusal true true p ≡ 0 }
+    requires plant_passes { plant_refusal true true p ≡ 0 }
     requires in_range { (n * 5 ≤ length requests.now) × (n + 577 ≤ length out.old) }
     ensures { out.new ≡ overlay out.old 0 (outcome p (calls_of requests.now n)) }
 {
@@ -40,7 +40,7 @@ fn write_outcome(p: Plant, requests: &[u8], n: usize, out: &mut [u8])
 
 // The number that refuses a batch: opening's, then 34 for request bytes that are no multiple of five, then 31 for a buffer under n + 577 bytes.
 fn batch_refusal(opening: u8, bytes: usize, room: usize) -> u8
-    ensures { result ≡ refusalBy opening bytes room }
+    ensures { result ≡ refusal_by opening bytes room }
 {
     if opening != 0 {
         return opening;
@@ -57,8 +57,8 @@ fn batch_refusal(opening: u8, bytes: usize, room: usize) -> u8
 // 1 to 12: the plant. 34: request bytes that are no multiple of five. 31: a buffer under n + 577 bytes. Otherwise 0, and the buffer holds the
 // n answers, the count of rights held, and skid, tank, right of each. After a refusal it is as it was.
 pub fn call_batch(plant: &[u8], requests: &[u8], out: &mut [u8]) -> u8
-    ensures { (result ≡ batchRefusal plant.now requests.now (length out.old))
-        × (out.new ≡ batchOut plant.now requests.now out.old) }
+    ensures { (result ≡ batch_refusal plant.now requests.now (length out.old))
+        × (out.new ≡ batch_out plant.now requests.now out.old) }
 {
     let reading = read(plant);
     let number = batch_refusal(reading.answer, requests.len(), out.len());

@@ -12,37 +12,37 @@ use lib.Dec.{eqb}
 use lib.ListN.{length, get_or, set, replicate, length-replicate, get_or-replicate, length-set}
 use lib.Seq.{get_or-set_same, get_or-set_other}
 use borrow.Author.Tests.{eqb-true, eqb-false, eq-eqb}
-use Rattle.base.specs.Below.{anyBelow}
+use Rattle.base.specs.Below.{any_below}
 use Rattle.base.specs.Bits.{bit}
 use Rattle.base.specs.Chain.{◌gives◌, first}
-use Rattle.base.proofs.Logic.{split, true-false, and-true, and_both}
-use Rattle.base.proofs.Below.{any-yes, any_none, any_same}
+use Rattle.base.proofs.Logic.{split, true_false, and_true, and_both}
+use Rattle.base.proofs.Below.{any_yes, any_none, any_same}
 use Rattle.base.proofs.Bits.{zero_bit}
-use Rattle.base.proofs.Shared.{within-lt}
-use Rattle.base.proofs.Members.{lowest-in, without-less}
+use Rattle.base.proofs.Shared.{within_lt}
+use Rattle.base.proofs.Members.{lowest_in, without_less}
 
 -- a is that a level is unset, b that there is no tank
 abbrev number_of : Bool → Bool → ℕ
 number_of a b = first (a gives 27 ∷ b gives 28 ∷ [])
 
-is-27 : (a b : Bool) → number_of a b ≡ 27 → a ≡ true
-is-27 true b e = refl
-is-27 false true e = absurd (omega (arith, e))
-is-27 false false e = absurd (omega (arith, e))
+is_27 : (a b : Bool) → number_of a b ≡ 27 → a ≡ true
+is_27 true b e = refl
+is_27 false true e = absurd (omega (arith, e))
+is_27 false false e = absurd (omega (arith, e))
 
-not-27 : (a b : Bool) → number_of a b ≢ 27 → a ≡ false
-not-27 true b h = absurd (h refl)
-not-27 false b h = refl
+not_27 : (a b : Bool) → number_of a b ≢ 27 → a ≡ false
+not_27 true b h = absurd (h refl)
+not_27 false b h = refl
 
-is-28 : (a b : Bool) → number_of a b ≡ 28 → b ≡ true
-is-28 true b e = absurd (omega (arith, e))
-is-28 false true e = refl
-is-28 false false e = absurd (omega (arith, e))
+is_28 : (a b : Bool) → number_of a b ≡ 28 → b ≡ true
+is_28 true b e = absurd (omega (arith, e))
+is_28 false true e = refl
+is_28 false false e = absurd (omega (arith, e))
 
-not-28 : (a b : Bool) → a ≡ false → number_of a b ≢ 28 → b ≡ false
-not-28 true b z h = cc
-not-28 false true z h = absurd (h refl)
-not-28 false false z h = refl
+not_28 : (a b : Bool) → a ≡ false → number_of a b ≢ 28 → b ≡ false
+not_28 true b z h = cc
+not_28 false true z h = absurd (h refl)
+not_28 false false z h = refl
 
 -- a group of the set is seen once it is not in the rest
 abbrev pub seen : ℕ → ℕ → ℕ → Bool
@@ -57,21 +57,21 @@ module _ (p q : ℕ → Bool) (tank : ℕ → ℕ) where
 
   -- what is found over the set
   pub record SetDone (need number : ℕ) (row : List ℕ) : Type 0 where
-    pub answers : number ≡ number_of (anyBelow (λ g. bit need g && p g) 8) (anyBelow (λ g. bit need g && q g) 8)
+    pub answers : number ≡ number_of (any_below (λ g. bit need g && p g) 8) (any_below (λ g. bit need g && q g) 8)
     pub chooses : number ≡ 0 → (g : ℕ) → g < 8 → get_or row g 0 ≡ cond (bit need g) (tank g) 255
 
   -- what the loop knows when `rest` is left of the set
   pub record RowSoFar (need rest number : ℕ) (row : List ℕ) : Type 0 where
     pub part : (g : ℕ) → bit rest g ≡ true → bit need g ≡ true
     pub all_set : (g : ℕ) → seen need rest g ≡ true → p g ≡ false
-    pub answers : number ≡ cond (anyBelow (λ g. seen need rest g && q g) 8) 28 0
+    pub answers : number ≡ cond (any_below (λ g. seen need rest g && q g) 8) 28 0
     pub size : length row ≡ 8
     pub chooses : (g : ℕ) → g < 8 → get_or row g 0 ≡ cond (seen need rest g) (tank g) 255
 
   pub none_yet : (need : ℕ) {row : List ℕ} → row ≡ replicate 8 255 → RowSoFar need need 0 row
   none_yet need e = record {
     part = λ g h. h;
-    all_set = λ g h. absurd (let z : ◌≡◌ {A = Bool} true false = sym h ∙ and-not_self (bit need g) in true-false z);
+    all_set = λ g h. absurd (let z : ◌≡◌ {A = Bool} true false = sym h ∙ and-not_self (bit need g) in true_false z);
     answers = sym (rw (any_none 8 (λ g. seen need need g && q g) (λ g l. rw (and-not_self (bit need g)))));
     size = rw e (length-replicate {A = ℕ} 8 255);
     chooses = λ g l. rw (e, and-not_self (bit need g)) (get_or-replicate {A = ℕ} 8 g 255 0 l);
@@ -83,18 +83,18 @@ Eight need = (g : ℕ) → bit need g ≡ true → g < 8
 
 small : (x : ℕ) → Eight x → x < 2 ^ 16
 small x e =
-    let b : x < 256 = within-lt 8 x (λ i h. split (bit x i) (λ y. absurd (let l = e i y in omega (arith, l))) (λ y. y)) in
+    let b : x < 256 = within_lt 8 x (λ i h. split (bit x i) (λ y. absurd (let l = e i y in omega (arith, l))) (λ y. y)) in
     omega (arith, b)
 
 -- the lowest group of a set that is not empty
-pub next-group : (rest : ℕ) → Eight rest → rest ≢ 0 → (count_trailing_zeros 16 rest < 8) × (bit rest (count_trailing_zeros 16 rest) ≡ true)
-next-group rest e n =
-    let l = lowest-in 16 rest (omega (arith, n)) (small rest e) in
+pub next_group : (rest : ℕ) → Eight rest → rest ≢ 0 → (count_trailing_zeros 16 rest < 8) × (bit rest (count_trailing_zeros 16 rest) ≡ true)
+next_group rest e n =
+    let l = lowest_in 16 rest (omega (arith, n)) (small rest e) in
     (e (count_trailing_zeros 16 rest) l.1, l.1)
 
 -- a set without one of its groups is a smaller number
 pub goes_down : (rest left g : ℕ) → Eight rest → bit rest g ≡ true → ((j : ℕ) → bit left j ≡ bit rest j && not (eqb g j)) → left < rest
-goes_down rest left g e h w = without-less 16 rest left g (small left (λ j b. e j (and-true (bit rest j) (not (eqb g j)) (sym (w j) ∙ b)).0)) h w
+goes_down rest left g e h w = without_less 16 rest left g (small left (λ j b. e j (and_true (bit rest j) (not (eqb g j)) (sym (w j) ∙ b)).0)) h w
 
 module _ {p q : ℕ → Bool} {tank : ℕ → ℕ} {need rest number : ℕ} {row : List ℕ} (v : RowSoFar p q tank need rest number row) where
   pub all_seen : rest ≡ 0 → SetDone p q tank need number row
@@ -111,46 +111,46 @@ module _ {p q : ℕ → Bool} {tank : ℕ → ℕ} {need rest number : ℕ} {row
   -- n is the number of group g by itself, which is in the rest, and `left` the rest without it
   module _ (g left : ℕ) {n : ℕ} {row' : List ℕ} (l : g < 8) (h : bit rest g ≡ true) (w : (j : ℕ) → bit left j ≡ bit rest j && not (eqb g j))
       (d : OneDone p q tank g row n row') where
-    pub ends-27 : n ≡ 27 → SetDone p q tank need n row'
-    ends-27 e = record {
-      answers = e ∙ sym (rw (any-yes 8 (λ g. bit need g && p g) g l (and_both _ _ (v.part g h) (is-27 (p g) (q g) (sym d.answers ∙ e)))));
+    pub ends_27 : n ≡ 27 → SetDone p q tank need n row'
+    ends_27 e = record {
+      answers = e ∙ sym (rw (any_yes 8 (λ g. bit need g && p g) g l (and_both _ _ (v.part g h) (is_27 (p g) (q g) (sym d.answers ∙ e)))));
       chooses = λ z. absurd (omega (arith, z, e));
     }
 
     -- group g is seen now, and the others as before
-    seen-own : seen need left g ≡ true
-    seen-own = rw (w g, h, v.part g h, eq-eqb g g refl)
+    seen_own : seen need left g ≡ true
+    seen_own = rw (w g, h, v.part g h, eq-eqb g g refl)
 
     seen_other : (j : ℕ) → eqb g j ≡ false → seen need left j ≡ seen need rest j
     seen_other j z = rw (w j, z, bool.and-true (bit rest j))
 
     module _ (e : n ≢ 27) where
       is_set : p g ≡ false
-      is_set = not-27 (p g) (q g) (λ z. e (d.answers ∙ z))
+      is_set = not_27 (p g) (q g) (λ z. e (d.answers ∙ z))
 
       placed : row' ≡ set row g (tank g)
       placed = d.chooses ∙ rw is_set
 
       -- the loop goes on, with a number that says whether a group seen so far lacks a tank
-      go_on : {number' : ℕ} → number' ≡ cond (anyBelow (λ j. seen need left j && q j) 8) 28 0 → RowSoFar p q tank need left number' row'
+      go_on : {number' : ℕ} → number' ≡ cond (any_below (λ j. seen need left j && q j) 8) 28 0 → RowSoFar p q tank need left number' row'
       go_on a = record {
-        part = λ j b. v.part j (and-true (bit rest j) (not (eqb g j)) (sym (w j) ∙ b)).0;
+        part = λ j b. v.part j (and_true (bit rest j) (not (eqb g j)) (sym (w j) ∙ b)).0;
         all_set = λ j b. split (eqb g j)
             (λ z. rw (← eqb-true g j z) is_set)
             (λ z. v.all_set j (sym (seen_other j z) ∙ b));
         answers = a;
         size = rw placed (simp length-set v.size);
         chooses = λ j m. split (eqb g j)
-            (λ z. rw (placed, ← eqb-true g j z, seen-own) (get_or-set_same row g (tank g) 0 (omega (arith, l, v.size))))
+            (λ z. rw (placed, ← eqb-true g j z, seen_own) (get_or-set_same row g (tank g) 0 (omega (arith, l, v.size))))
             (λ z. rw (placed, seen_other j z) (get_or-set_other row g j (tank g) 0 (λ e. eqb-false g j z (sym e)) ∙ v.chooses j m));
       }
 
-      pub becomes-28 : {number' : ℕ} → n ≡ 28 → number' ≡ 28 → RowSoFar p q tank need left number' row'
-      becomes-28 y a = go_on (a ∙ sym (rw (any-yes 8 (λ j. seen need left j && q j) g l (and_both _ _ seen-own (is-28 (p g) (q g) (sym d.answers ∙ y))))))
+      pub becomes_28 : {number' : ℕ} → n ≡ 28 → number' ≡ 28 → RowSoFar p q tank need left number' row'
+      becomes_28 y a = go_on (a ∙ sym (rw (any_yes 8 (λ j. seen need left j && q j) g l (and_both _ _ seen_own (is_28 (p g) (q g) (sym d.answers ∙ y))))))
 
       pub stays : {number' : ℕ} → n ≢ 28 → number' ≡ number → RowSoFar p q tank need left number' row'
       stays y a =
-          let own : q g ≡ false = not-28 (p g) (q g) is_set (λ z. y (d.answers ∙ z)) in
+          let own : q g ≡ false = not_28 (p g) (q g) is_set (λ z. y (d.answers ∙ z)) in
           go_on (a ∙ v.answers ∙ ap (λ b. cond b 28 0) (any_same 8 (λ j. seen need rest j && q j) (λ j. seen need left j && q j)
           (λ j m. split (eqb g j)
           (λ z. rw (← eqb-true g j z, own) (and-false (seen need rest g) ∙ sym (and-false (seen need left g))))

@@ -6,35 +6,35 @@ use mathlib.Core.List.{List}
 use Rattle.rules.specs.declared.Monitor.{Monitor}
 use Rattle.rules.specs.Record.{intact}
 use Rattle.calls.specs.Kept.{Granted}
-use Rattle.calls.specs.Lent.{plantCounts, Passed, SetReads, StopReads, GateReads, GrantReads}
+use Rattle.calls.specs.Lent.{plant_counts, Passed, SetReads, StopReads, GateReads, GrantReads}
 use Rattle.calls.specs.Start.{EarlyReads, WishReads, SearchReads, Looked, StoreReads}
 
 module _ (m : Monitor) (i : intact m.plant m ≡ true) where
-  own-passed : Passed (plantCounts m.plant) m
-  own-passed = record { passes = i; counts = refl }
+  own_passed : Passed (plant_counts m.plant) m
+  own_passed = record { passes = i; counts = refl }
 
-  pub own-set : SetReads (plantCounts m.plant) m.plant.lattice_sizes m.plant.requirement_lattice m.levels m
-  own-set = record { passed = own-passed; sizes-are = refl; lattice-is = refl; levels-are = refl }
+  pub own_set : SetReads (plant_counts m.plant) m.plant.lattice_sizes m.plant.requirement_lattice m.levels m
+  own_set = record { passed = own_passed; sizes_are = refl; lattice_is = refl; levels_are = refl }
 
-  pub own-stop : StopReads (plantCounts m.plant) m.running m.chosen m
-  own-stop = record { passed = own-passed; running-is = refl; chosen_is = refl }
+  pub own_stop : StopReads (plant_counts m.plant) m.running m.chosen m
+  own_stop = record { passed = own_passed; running_is = refl; chosen_is = refl }
 
-  pub own-gate : GateReads (plantCounts m.plant) m.plant.tank_group m.plant.task_rights m.running m.chosen m
-  own-gate = record { passed = own-passed; group-is = refl; rights-are = refl; running-is = refl; chosen_is = refl }
+  pub own_gate : GateReads (plant_counts m.plant) m.plant.tank_group m.plant.task_rights m.running m.chosen m
+  own_gate = record { passed = own_passed; group_is = refl; rights_are = refl; running_is = refl; chosen_is = refl }
 
-  pub own-grant : {granted : List ℕ} → Granted m.plant m.running granted → GrantReads (plantCounts m.plant) m.plant.tank_group granted m.chosen m
-  own-grant G = record { passed = own-passed; group-is = refl; chosen_is = refl; grants = G }
+  pub own_grant : {granted : List ℕ} → Granted m.plant m.running granted → GrantReads (plant_counts m.plant) m.plant.tank_group granted m.chosen m
+  own_grant G = record { passed = own_passed; group_is = refl; chosen_is = refl; grants = G }
 
-  pub own-early : EarlyReads (plantCounts m.plant) m.plant.skid_tasks m.running m
-  own-early = record { passed = own-passed; may-is = refl; running-is = refl }
+  pub own_early : EarlyReads (plant_counts m.plant) m.plant.skid_tasks m.running m
+  own_early = record { passed = own_passed; may_is = refl; running_is = refl }
 
   -- for a skid and a task that are there
   module _ (s t : ℕ) (l : (s < m.plant.skids) × (t < m.plant.tasks)) where
-    pub own-wishes : WishReads m.plant.group_requirement m.levels s t m
-    own-wishes = record { passes = i; requirement-is = refl; levels-are = refl; skid = l.0; task = l.1 }
+    pub own_wishes : WishReads m.plant.group_requirement m.levels s t m
+    own_wishes = record { passes = i; requirement_is = refl; levels_are = refl; skid = l.0; task = l.1 }
 
-    pub own-search : SearchReads m.plant.lattice_sets m.plant.requirement_lattice m.plant.group_requirement m.plant.tank_group m.plant.tank_level m.levels s t m.plant.tanks m
-    own-search = record { wishes = own-wishes; sets-are = refl; lattice-is = refl; group-is = refl; level-is = refl; tanks-are = refl }
+    pub own_search : SearchReads m.plant.lattice_sets m.plant.requirement_lattice m.plant.group_requirement m.plant.tank_group m.plant.tank_level m.levels s t m.plant.tanks m
+    own_search = record { wishes = own_wishes; sets_are = refl; lattice_is = refl; group_is = refl; level_is = refl; tanks_are = refl }
 
-    pub own-store : {made : List ℕ} → Looked m s t made → StoreReads m.plant.group_requirement m.levels made m.running m.chosen s t m
-    own-store h = record { reads = record { wishes = own-wishes; table = h }; running-is = refl; chosen_is = refl }
+    pub own_store : {made : List ℕ} → Looked m s t made → StoreReads m.plant.group_requirement m.levels made m.running m.chosen s t m
+    own_store h = record { reads = record { wishes = own_wishes; table = h }; running_is = refl; chosen_is = refl }

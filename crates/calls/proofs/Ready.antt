@@ -10,55 +10,55 @@ use borrow.Author.Tests.{lt-ltb, eq-eqb}
 use Rattle.base.specs.Below.{all_below}
 use Rattle.base.proofs.Logic.{and_both, or_left, or_right}
 use Rattle.base.proofs.Below.{all_yes}
-use Rattle.plant.specs.Plant.{requirementOf, levelsOf, levelOf, group_of, latticeOf}
-use Rattle.plant.specs.Checks.{entryBelow, Sound}
+use Rattle.plant.specs.Plant.{requirement_of, levels_of, level_of, group_of, lattice_of}
+use Rattle.plant.specs.Checks.{entry_below, Sound}
 use Rattle.plant.specs.Valid.{Valid}
 use Rattle.plant.proofs.Valid.{valid}
 use Rattle.rules.specs.declared.Monitor.{Monitor}
 use Rattle.rules.specs.Intact.{IntactView}
-use Rattle.rules.specs.Record.{view_of, levelAt, hasLevel, intact}
-use Rattle.rules.proofs.IntactWords.{intact-means}
+use Rattle.rules.specs.Record.{view_of, level_at, has_level, intact}
+use Rattle.rules.proofs.IntactWords.{intact_means}
 use Rattle.choice.specs.Table.{link_in}
 
 module _ (m : Monitor) (i : intact m.plant m ≡ true) where
-  pub plant-sound : Sound m.plant
-  plant-sound = ((intact-means m.plant (view_of m.plant m)).0 i).plant-sound
+  pub plant_sound : Sound m.plant
+  plant_sound = ((intact_means m.plant (view_of m.plant m)).0 i).plant_sound
 
-  pub plant-valid : Valid m.plant
-  plant-valid = valid m.plant plant-sound
+  pub plant_valid : Valid m.plant
+  plant_valid = valid m.plant plant_sound
 
-  skid-intact : (s : ℕ) → s < m.plant.skids → IntactView m.plant s (view_of m.plant m s)
-  skid-intact = ((intact-means m.plant (view_of m.plant m)).0 i).skids-intact
+  skid_intact : (s : ℕ) → s < m.plant.skids → IntactView m.plant s (view_of m.plant m s)
+  skid_intact = ((intact_means m.plant (view_of m.plant m)).0 i).skids_intact
 
-  pub links-there : all_below (link_in m.plant.requirement_lattice m.plant.group_requirement) m.plant.groups ≡ true
-  links-there = all_yes m.plant.groups (link_in m.plant.requirement_lattice m.plant.group_requirement)
-      (λ g l. let r = plant-valid.req-in g l in
-      and_both _ _ (lt-ltb (requirementOf m.plant g) 8 (omega (arith, plant-valid.counts.requirements-fit))) (lt-ltb (latticeOf m.plant (requirementOf m.plant g)) 8 (omega (arith, plant-valid.lattice-in (requirementOf m.plant g) r, plant-valid.counts.lattices-fit))))
+  pub links_there : all_below (link_in m.plant.requirement_lattice m.plant.group_requirement) m.plant.groups ≡ true
+  links_there = all_yes m.plant.groups (link_in m.plant.requirement_lattice m.plant.group_requirement)
+      (λ g l. let r = plant_valid.req_in g l in
+      and_both _ _ (lt-ltb (requirement_of m.plant g) 8 (omega (arith, plant_valid.counts.requirements_fit))) (lt-ltb (lattice_of m.plant (requirement_of m.plant g)) 8 (omega (arith, plant_valid.lattice_in (requirement_of m.plant g) r, plant_valid.counts.lattices_fit))))
 
-  pub groups-counted : all_below (entryBelow m.plant.tank_group m.plant.groups) m.plant.tanks ≡ true
-  groups-counted = all_yes m.plant.tanks (entryBelow m.plant.tank_group m.plant.groups) (λ o l. lt-ltb (group_of m.plant o) m.plant.groups (plant-valid.group-in o l))
+  pub groups_counted : all_below (entry_below m.plant.tank_group m.plant.groups) m.plant.tanks ≡ true
+  groups_counted = all_yes m.plant.tanks (entry_below m.plant.tank_group m.plant.groups) (λ o l. lt-ltb (group_of m.plant o) m.plant.groups (plant_valid.group_in o l))
 
-  pub levels-there : all_below (entryBelow m.plant.tank_level 16) m.plant.tanks ≡ true
-  levels-there = all_yes m.plant.tanks (entryBelow m.plant.tank_level 16)
+  pub levels_there : all_below (entry_below m.plant.tank_level 16) m.plant.tanks ≡ true
+  levels_there = all_yes m.plant.tanks (entry_below m.plant.tank_level 16)
       (λ o l.
-      let g = plant-valid.group-in o l in
-      let r = plant-valid.req-in (group_of m.plant o) g in
-      lt-ltb (levelOf m.plant o) 16 (omega (arith, plant-valid.level_in o l, plant-valid.levels-fit (requirementOf m.plant (group_of m.plant o)) r)))
+      let g = plant_valid.group_in o l in
+      let r = plant_valid.req_in (group_of m.plant o) g in
+      lt-ltb (level_of m.plant o) 16 (omega (arith, plant_valid.level_in_lem o l, plant_valid.levels_fit (requirement_of m.plant (group_of m.plant o)) r)))
 
-  pub task-there : (s : ℕ) → s < m.plant.skids → get_or m.running s 0 ≢ 255 → get_or m.running s 0 < 16
+  pub task_there : (s : ℕ) → s < m.plant.skids → get_or m.running s 0 ≢ 255 → get_or m.running s 0 < 16
   unfolding view_of
-  task-there s l n =
+  task_there s l n =
       let e = lt-ltb s m.plant.skids l in
       ⊎_elim
       (λ h. absurd (n (rw e at h)))
-      (λ h. let k : get_or m.running s 0 < m.plant.tasks = rw e at h.0 in omega (arith, k, plant-valid.counts.tasks-fit))
-      (skid-intact s l).task-allowed
+      (λ h. let k : get_or m.running s 0 < m.plant.tasks = rw e at h.0 in omega (arith, k, plant_valid.counts.tasks_fit))
+      (skid_intact s l).task_allowed
 
-  pub level-there : (s t d : ℕ) → s < m.plant.skids → t < m.plant.tasks → d < m.plant.requirements → get_or m.levels (levelAt s t d) 0 ≢ 255 → get_or m.levels (levelAt s t d) 0 < 16
+  pub level_there : (s t d : ℕ) → s < m.plant.skids → t < m.plant.tasks → d < m.plant.requirements → get_or m.levels (level_at s t d) 0 ≢ 255 → get_or m.levels (level_at s t d) 0 < 16
   unfolding view_of
-  level-there s t d a b c n =
-      let e : hasLevel m.plant s t d ≡ true = rw (lt-ltb s _ a, lt-ltb t _ b, lt-ltb d _ c) in
+  level_there s t d a b c n =
+      let e : has_level m.plant s t d ≡ true = rw (lt-ltb s _ a, lt-ltb t _ b, lt-ltb d _ c) in
       ⊎_elim
       (λ h. absurd (n (rw e at h)))
-      (λ h. let k : get_or m.levels (levelAt s t d) 0 < levelsOf m.plant d = rw e at h in omega (arith, k, plant-valid.levels-fit d c))
-      ((skid-intact s a).levels-known t d b c)
+      (λ h. let k : get_or m.levels (level_at s t d) 0 < levels_of m.plant d = rw e at h in omega (arith, k, plant_valid.levels_fit d c))
+      ((skid_intact s a).levels_known t d b c)

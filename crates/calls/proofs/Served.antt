@@ -9,16 +9,16 @@ use native.Mathlib.Decide.{ℕ_discrete}
 use lib.ListN.{length, set, get_or, length-append, replicate, get_or-append}
 use lib.Seq.{get_or-append_seam}
 use Rattle.base.specs.Overlay.{overlay}
-use Rattle.base.proofs.Overlaid.{overlay-none, overlay-more}
+use Rattle.base.proofs.Overlaid.{overlay_none, overlay_more}
 use Rattle.plant.specs.declared.Plant.{Plant}
-use Rattle.plant.specs.Checks.{plantRefusal, Sound}
-use Rattle.plant.proofs.Sound.{sound-law}
+use Rattle.plant.specs.Checks.{plant_refusal, Sound}
+use Rattle.plant.proofs.Sound.{sound_law}
 use Rattle.rules.specs.declared.Monitor.{Monitor}
 use Rattle.rules.specs.Rules.{Call, answer}
-use Rattle.rules.specs.Record.{fresh, view_of, intact, stepped, recordOf}
+use Rattle.rules.specs.Record.{fresh, view_of, intact, stepped, record_of}
 use Rattle.rules.specs.Run.{runs, ends, TestedOnce}
-use Rattle.rules.proofs.Agree.{fresh-agree, intact-true}
-use Rattle.rules.proofs.IntactKept.{tested-once}
+use Rattle.rules.proofs.Agree.{fresh_agree, intact_true}
+use Rattle.rules.proofs.IntactKept.{tested_once}
 use Rattle.calls.specs.Kept.{Tables, Granted}
 use Rattle.calls.specs.RequestBytes.{call_at, calls_of}
 
@@ -28,20 +28,20 @@ unfolding ends
 ends_more [] m c = refl
 ends_more (x ∷ cs) m c = ends_more cs (stepped m.plant m x) c
 
-pub runs-more : (cs : List Call) (m : Monitor) (c : Call) → runs m (cs ++ (c ∷ [])) ≡ runs m cs ++ (answer (ends m cs).plant (view_of (ends m cs).plant (ends m cs)) c ∷ [])
+pub runs_more : (cs : List Call) (m : Monitor) (c : Call) → runs m (cs ++ (c ∷ [])) ≡ runs m cs ++ (answer (ends m cs).plant (view_of (ends m cs).plant (ends m cs)) c ∷ [])
 unfolding runs ends
-runs-more [] m c = refl
-runs-more (x ∷ cs) m c = ap (λ (l : List ℕ). answer m.plant (view_of m.plant m) x ∷ l) (runs-more cs (stepped m.plant m x) c)
+runs_more [] m c = refl
+runs_more (x ∷ cs) m c = ap (λ (l : List ℕ). answer m.plant (view_of m.plant m) x ∷ l) (runs_more cs (stepped m.plant m x) c)
 
-pub runs-length : (cs : List Call) (m : Monitor) → length (runs m cs) ≡ length cs
+pub runs_length : (cs : List Call) (m : Monitor) → length (runs m cs) ≡ length cs
 unfolding runs
-runs-length [] m = refl
-runs-length (x ∷ cs) m = ap suc (runs-length cs (stepped m.plant m x))
+runs_length [] m = refl
+runs_length (x ∷ cs) m = ap suc (runs_length cs (stepped m.plant m x))
 
-pub calls-length : (bytes : List ℕ) (n : ℕ) → length (calls_of bytes n) ≡ n
+pub calls_length : (bytes : List ℕ) (n : ℕ) → length (calls_of bytes n) ≡ n
 unfolding calls_of
-calls-length bytes zero = refl
-calls-length bytes (suc n) = omega (arith, length-append (calls_of bytes n) (call_at bytes n ∷ []), calls-length bytes n)
+calls_length bytes zero = refl
+calls_length bytes (suc n) = omega (arith, length-append (calls_of bytes n) (call_at bytes n ∷ []), calls_length bytes n)
 
 -- call i is request i
 pub calls_at : (bytes : List ℕ) (n i : ℕ) (d : Call) → i < n → get_or (calls_of bytes n) i d ≡ call_at bytes i
@@ -49,59 +49,59 @@ unfolding calls_of
 calls_at bytes zero i d l = absurd (omega arith)
 calls_at bytes (suc n) i d l = elim (ℕ_discrete i n) [
   | yes e ↦
-      ap (λ (k : ℕ). get_or (calls_of bytes n ++ (call_at bytes n ∷ [])) k d) (let f : i ≡ length (calls_of bytes n) = e ∙ sym (calls-length bytes n) in f)
+      ap (λ (k : ℕ). get_or (calls_of bytes n ++ (call_at bytes n ∷ [])) k d) (let f : i ≡ length (calls_of bytes n) = e ∙ sym (calls_length bytes n) in f)
       ∙ get_or-append_seam (calls_of bytes n) (call_at bytes n) [] d ∙ ap (call_at bytes) (sym e)
-  | no e ↦ get_or-append (calls_of bytes n) (call_at bytes n ∷ []) d i (omega (arith, calls-length bytes n)) ∙ calls_at bytes n i d (omega arith)
+  | no e ↦ get_or-append (calls_of bytes n) (call_at bytes n ∷ []) d i (omega (arith, calls_length bytes n)) ∙ calls_at bytes n i d (omega arith)
 ]
 
-pub calls-more : (bytes : List ℕ) (n : ℕ) → calls_of bytes (n + 1) ≡ calls_of bytes n ++ (call_at bytes n ∷ [])
+pub calls_more : (bytes : List ℕ) (n : ℕ) → calls_of bytes (n + 1) ≡ calls_of bytes n ++ (call_at bytes n ∷ [])
 unfolding calls_of
-calls-more bytes n = rw add-one
+calls_more bytes n = rw add-one
 
-module _ (P : Plant) (q : plantRefusal true true P ≡ 0) where
+module _ (P : Plant) (q : plant_refusal true true P ≡ 0) where
   sound : Sound P
-  sound = (sound-law P).0 q
+  sound = (sound_law P).0 q
 
   -- the fresh monitor passes test 20, and so does every later one
   pub once : (cs : List Call) → TestedOnce (fresh P) cs
   unfolding fresh
-  once cs = let A = fresh-agree P sound in tested-once (fresh P) A.sized (intact-true P sound (fresh P) [] A) cs
+  once cs = let A = fresh_agree P sound in tested_once (fresh P) A.sized (intact_true P sound (fresh P) [] A) cs
 
   module _ (bytes : List ℕ) (i : ℕ) {M : Monitor} (e : M ≡ ends (fresh P) (calls_of bytes i)) where
-    pub still-intact : intact M.plant M ≡ true
+    pub still_intact : intact M.plant M ≡ true
     unfolding fresh
-    still-intact = subst (λ (x : Monitor). intact x.plant x ≡ true) (sym e) (subst (λ (p : Plant). intact p (ends (fresh P) (calls_of bytes i)) ≡ true) (sym (once (calls_of bytes i)).same-plant) (once (calls_of bytes i)).still-passes)
+    still_intact = subst (λ (x : Monitor). intact x.plant x ≡ true) (sym e) (subst (λ (p : Plant). intact p (ends (fresh P) (calls_of bytes i)) ≡ true) (sym (once (calls_of bytes i)).same_plant) (once (calls_of bytes i)).still_passes)
 
-    pub next-record : {M' : Monitor} → M' ≡ stepped M.plant M (call_at bytes i) → M' ≡ ends (fresh P) (calls_of bytes (i + 1))
-    next-record h =
+    pub next_record : {M' : Monitor} → M' ≡ stepped M.plant M (call_at bytes i) → M' ≡ ends (fresh P) (calls_of bytes (i + 1))
+    next_record h =
         h ∙ ap (λ (x : Monitor). stepped x.plant x (call_at bytes i)) e
-        ∙ sym (ap (ends (fresh P)) (calls-more bytes i) ∙ ends_more (calls_of bytes i) (fresh P) (call_at bytes i))
+        ∙ sym (ap (ends (fresh P)) (calls_more bytes i) ∙ ends_more (calls_of bytes i) (fresh P) (call_at bytes i))
 
     place : 0 + length (runs (fresh P) (calls_of bytes i)) ≡ i
-    place = omega (arith, runs-length (calls_of bytes i) (fresh P), calls-length bytes i)
+    place = omega (arith, runs_length (calls_of bytes i) (fresh P), calls_length bytes i)
 
-    pub next-out : (out₀ : List ℕ) {out : List ℕ} {v : ℕ} → i < length out₀ → out ≡ overlay out₀ 0 (runs (fresh P) (calls_of bytes i)) → v ≡ answer M.plant (view_of M.plant M) (call_at bytes i) → set out i v ≡ overlay out₀ 0 (runs (fresh P) (calls_of bytes (i + 1)))
-    next-out out₀ {out} {v} l h w =
+    pub next_out : (out₀ : List ℕ) {out : List ℕ} {v : ℕ} → i < length out₀ → out ≡ overlay out₀ 0 (runs (fresh P) (calls_of bytes i)) → v ≡ answer M.plant (view_of M.plant M) (call_at bytes i) → set out i v ≡ overlay out₀ 0 (runs (fresh P) (calls_of bytes (i + 1)))
+    next_out out₀ {out} {v} l h w =
         ap (λ (x : List ℕ). set x i v) h
         ∙ ap (λ (k : ℕ). set (overlay out₀ 0 (runs (fresh P) (calls_of bytes i))) k v) (sym place)
-        ∙ overlay-more out₀ 0 (runs (fresh P) (calls_of bytes i)) v (omega (arith, place))
+        ∙ overlay_more out₀ 0 (runs (fresh P) (calls_of bytes i)) v (omega (arith, place))
         ∙ ap (λ (x : ℕ). overlay out₀ 0 (runs (fresh P) (calls_of bytes i) ++ (x ∷ []))) (w ∙ ap (λ (x : Monitor). answer x.plant (view_of x.plant x) (call_at bytes i)) e)
-        ∙ ap (overlay out₀ 0) (sym (ap (runs (fresh P)) (calls-more bytes i) ∙ runs-more (calls_of bytes i) (fresh P) (call_at bytes i)))
+        ∙ ap (overlay out₀ 0) (sym (ap (runs (fresh P)) (calls_more bytes i) ∙ runs_more (calls_of bytes i) (fresh P) (call_at bytes i)))
 
 -- what the loop knows before request i: the record and the answers so far are the run's, and what is kept beside the record is kept
 pub record Serving (P : Plant) (bytes : List ℕ) (n : ℕ) (out₀ : List ℕ) (out levels running chosen made needs granted : List ℕ) (i : ℕ) : Type 0 where
   pub at_most : i ≤ n
   pub size : length out ≡ length out₀
-  pub state : recordOf P levels running chosen ≡ ends (fresh P) (calls_of bytes i)
+  pub state : record_of P levels running chosen ≡ ends (fresh P) (calls_of bytes i)
   pub answers : out ≡ overlay out₀ 0 (runs (fresh P) (calls_of bytes i))
   pub tables : Tables P made needs
   pub grants : Granted P running granted
 
 -- before the first request
-pub first-record : (P : Plant) (bytes : List ℕ) → recordOf P (replicate 1024 255) (replicate 8 255) (replicate 64 255) ≡ ends (fresh P) (calls_of bytes 0)
+pub first_record : (P : Plant) (bytes : List ℕ) → record_of P (replicate 1024 255) (replicate 8 255) (replicate 64 255) ≡ ends (fresh P) (calls_of bytes 0)
 unfolding ends calls_of fresh
-first-record P bytes = refl
+first_record P bytes = refl
 
 pub first_out : (P : Plant) (bytes out : List ℕ) → out ≡ overlay out 0 (runs (fresh P) (calls_of bytes 0))
 unfolding runs calls_of
-first_out P bytes out = overlay-none out 0
+first_out P bytes out = overlay_none out 0

@@ -3,10 +3,10 @@
 use Rattle.std.specs.Prelude.{◌≡◌, ◌≢◌, ℕ, ◌<◌, true, cond, ◌&&◌, List, eqb, ltb, length, get_or}
 use Rattle.base.specs.Bits.{bit}
 use Rattle.plant.specs.declared.Plant.{Plant}
-use Rattle.plant.specs.Plant.{rightsOf, needs}
+use Rattle.plant.specs.Plant.{rights_of, needs}
 use Rattle.choice.specs.Choice.{unset}
 use Rattle.choice.specs.Table.{ChoicesIn, Tabled}
-use Rattle.rules.specs.Record.{chosenAt}
+use Rattle.rules.specs.Record.{chosen_at}
 
 -- the table of the choices of a plant, from each group under each level
 abbrev pub Choices : Plant → List ℕ → Type 0
@@ -35,4 +35,4 @@ pub record Tables (P : Plant) (made sets : List ℕ) : Type 0 where
 pub record Granted (P : Plant) (running granted : List ℕ) : Type 0 where
   pub tasks : length running ≡ 8
   pub size : length granted ≡ 64
-  pub right : (s g : ℕ) → s < P.skids → g < 8 → get_or granted (chosenAt s g) 0 ≡ cond (eqb (get_or running s 0) unset) 0 (rightsOf P (get_or running s 0) g)
+  pub right : (s g : ℕ) → s < P.skids → g < 8 → get_or granted (chosen_at s g) 0 ≡ cond (eqb (get_or running s 0) unset) 0 (rights_of P (get_or running s 0) g)

@@ -10,12 +10,12 @@ use Rattle.calls.specs.declared.PlantCounts.{PlantCounts}
 use Rattle.calls.specs.Kept.{Granted}
 
 -- the counts of a plant, as they go from function to function
-abbrev pub plantCounts : Plant → PlantCounts
-plantCounts P = record { lattices = P.lattices; requirements = P.requirements; groups = P.groups; tanks = P.tanks; tasks = P.tasks; skids = P.skids }
+abbrev pub plant_counts : Plant → PlantCounts
+plant_counts P = record { lattices = P.lattices; requirements = P.requirements; groups = P.groups; tanks = P.tanks; tasks = P.tasks; skids = P.skids }
 
 -- the plant whose counts and arrays these are, in the order of its fields
-abbrev pub lentPlant : PlantCounts → List ℕ → List ℕ → List ℕ → List ℕ → List ℕ → List ℕ → List ℕ → List ℕ → List ℕ → Plant
-lentPlant n sizes sets lattice requirement group level names rights may = record {
+abbrev pub lent_plant : PlantCounts → List ℕ → List ℕ → List ℕ → List ℕ → List ℕ → List ℕ → List ℕ → List ℕ → List ℕ → Plant
+lent_plant n sizes sets lattice requirement group level names rights may = record {
   lattices = n.lattices;
   requirements = n.requirements;
   groups = n.groups;
@@ -51,42 +51,42 @@ pub record Does (m : Monitor) (c : Call) (number : ℕ) (left : Monitor) : Type 
 -- reads no others.
 pub record Passed (n : PlantCounts) (m : Monitor) : Type 0 where
   pub passes : intact m.plant m ≡ true
-  pub counts : plantCounts m.plant ≡ n
+  pub counts : plant_counts m.plant ≡ n
 
 -- what a set, a stop and a gate read of it
 pub record SetReads (n : PlantCounts) (sizes lattice levels : List ℕ) (m : Monitor) : Type 0 where
   pub passed : Passed n m
-  pub sizes-are : m.plant.lattice_sizes ≡ sizes
-  pub lattice-is : m.plant.requirement_lattice ≡ lattice
-  pub levels-are : m.levels ≡ levels
+  pub sizes_are : m.plant.lattice_sizes ≡ sizes
+  pub lattice_is : m.plant.requirement_lattice ≡ lattice
+  pub levels_are : m.levels ≡ levels
 
 pub record StopReads (n : PlantCounts) (running chosen : List ℕ) (m : Monitor) : Type 0 where
   pub passed : Passed n m
-  pub running-is : m.running ≡ running
+  pub running_is : m.running ≡ running
   pub chosen_is : m.chosen ≡ chosen
 
 pub record GateReads (n : PlantCounts) (group rights running chosen : List ℕ) (m : Monitor) : Type 0 where
   pub passed : Passed n m
-  pub group-is : m.plant.tank_group ≡ group
-  pub rights-are : m.plant.task_rights ≡ rights
-  pub running-is : m.running ≡ running
+  pub group_is : m.plant.tank_group ≡ group
+  pub rights_are : m.plant.task_rights ≡ rights
+  pub running_is : m.running ≡ running
   pub chosen_is : m.chosen ≡ chosen
 
 -- the same for a gate in a list, which reads the rights granted in place of the running task and its rights
 pub record GrantReads (n : PlantCounts) (group granted chosen : List ℕ) (m : Monitor) : Type 0 where
   pub passed : Passed n m
-  pub group-is : m.plant.tank_group ≡ group
+  pub group_is : m.plant.tank_group ≡ group
   pub chosen_is : m.chosen ≡ chosen
   pub grants : Granted m.plant m.running granted
 
 -- the same of a skid and a tank that are there, for whoever asks whether a right is held
 pub record HeldReads (group rights running chosen : List ℕ) (s o : ℕ) (m : Monitor) : Type 0 where
-  pub reads : GateReads (plantCounts m.plant) group rights running chosen m
+  pub reads : GateReads (plant_counts m.plant) group rights running chosen m
   pub skid : s < m.plant.skids
   pub tank : o < m.plant.tanks
 
 pub record GrantedReads (group granted chosen : List ℕ) (s o : ℕ) (m : Monitor) : Type 0 where
-  pub reads : GrantReads (plantCounts m.plant) group granted chosen m
+  pub reads : GrantReads (plant_counts m.plant) group granted chosen m
   pub skid : s < m.plant.skids
   pub tank : o < m.plant.tanks
 

@@ -5,8 +5,8 @@ use Rattle.rules.specs.Rules.{Call}
 use Rattle.calls.specs.Lent.{call_by}
 
 -- the five bytes of request i
-abbrev pub requestAt : List ℕ → ℕ → List ℕ
-requestAt bytes i = byte_at bytes (i * 5) ∷ byte_at bytes (i * 5 + 1) ∷ byte_at bytes (i * 5 + 2) ∷ byte_at bytes (i * 5 + 3) ∷ byte_at bytes (i * 5 + 4) ∷ []
+abbrev pub request_at : List ℕ → ℕ → List ℕ
+request_at bytes i = byte_at bytes (i * 5) ∷ byte_at bytes (i * 5 + 1) ∷ byte_at bytes (i * 5 + 2) ∷ byte_at bytes (i * 5 + 3) ∷ byte_at bytes (i * 5 + 4) ∷ []
 
 abbrev pub call_at : List ℕ → ℕ → Call
 call_at bytes i = call_by (byte_at bytes (i * 5)) (byte_at bytes (i * 5 + 1)) (byte_at bytes (i * 5 + 2)) (byte_at bytes (i * 5 + 3)) (byte_at bytes (i * 5 + 4))

@@ -3,62 +3,62 @@ use Rattle.std.specs.Prelude.{◌≡◌, ◌≢◌, ℕ, ◌+◌, ◌*◌, ◌<�
 use Rattle.std.proofs.Math.ListN as ListN
 use Rattle.base.specs.Chain.{Test, ◌gives◌, first}
 use Rattle.plant.specs.declared.Plant.{Plant}
-use Rattle.plant.specs.Plant.{requirementOf}
+use Rattle.plant.specs.Plant.{requirement_of}
 use Rattle.choice.specs.Choice.{unset, served, choice}
 use Rattle.rules.specs.declared.Monitor.{Monitor}
-use Rattle.rules.specs.Rules.{start, conditions, pickFor}
+use Rattle.rules.specs.Rules.{start, conditions, pick_for}
 use Rattle.rules.specs.Record.{view_of, changed, intact}
 use Rattle.calls.specs.declared.PlantCounts.{PlantCounts}
 use Rattle.calls.specs.Kept.{NeedsAt}
 use Rattle.calls.specs.Lent.{Passed, get_row}
 
 -- The rules' conditions of a start, cut in two: 21 to 26, which ask nothing of the levels and the groups, and the others.
-abbrev pub earlyTests : Monitor → ℕ → ℕ → List Test
-earlyTests m s t = take 4 (conditions m.plant (view_of m.plant m) (start s t))
+abbrev pub early_tests : Monitor → ℕ → ℕ → List Test
+early_tests m s t = take 4 (conditions m.plant (view_of m.plant m) (start s t))
 
-abbrev pub lateTests : Monitor → ℕ → ℕ → List Test
-lateTests m s t = drop 4 (conditions m.plant (view_of m.plant m) (start s t))
+abbrev pub late_tests : Monitor → ℕ → ℕ → List Test
+late_tests m s t = drop 4 (conditions m.plant (view_of m.plant m) (start s t))
 
 -- what the early ones read of a record
 pub record EarlyReads (n : PlantCounts) (may running : List ℕ) (m : Monitor) : Type 0 where
   pub passed : Passed n m
-  pub may-is : m.plant.skid_tasks ≡ may
-  pub running-is : m.running ≡ running
+  pub may_is : m.plant.skid_tasks ≡ may
+  pub running_is : m.running ≡ running
 
 -- what the groups that a task needs are read of
 pub record NeedReads (rights : List ℕ) (groups : ℕ) (P : Plant) : Type 0 where
-  pub rights-are : P.task_rights ≡ rights
-  pub groups-are : P.groups ≡ groups
+  pub rights_are : P.task_rights ≡ rights
+  pub groups_are : P.groups ≡ groups
 
 -- the level that the skid has for each requirement in the task
-abbrev pub wishOf : Monitor → ℕ → ℕ → ℕ → ℕ
-wishOf m s t = (view_of m.plant m s).level t
+abbrev pub wish_of : Monitor → ℕ → ℕ → ℕ → ℕ
+wish_of m s t = (view_of m.plant m s).level t
 
 -- `made` has what a start looks up: for each group that the task needs, the choice under the level that the skid has. A list has it of every level.
 abbrev pub Looked : Monitor → ℕ → ℕ → List ℕ → Type 0
-Looked m s t made = (g : ℕ) → NeedsAt m.plant t g → wishOf m s t (requirementOf m.plant g) ≢ unset
-    → get_or made (g * 16 + wishOf m s t (requirementOf m.plant g)) 0 ≡ choice m.plant g (wishOf m s t)
+Looked m s t made = (g : ℕ) → NeedsAt m.plant t g → wish_of m s t (requirement_of m.plant g) ≢ unset
+    → get_or made (g * 16 + wish_of m s t (requirement_of m.plant g)) 0 ≡ choice m.plant g (wish_of m s t)
 
 -- what the levels of a start are read of, for a skid and a task that are there
 pub record WishReads (requirement levels : List ℕ) (s t : ℕ) (m : Monitor) : Type 0 where
   pub passes : intact m.plant m ≡ true
-  pub requirement-is : m.plant.group_requirement ≡ requirement
-  pub levels-are : m.levels ≡ levels
+  pub requirement_is : m.plant.group_requirement ≡ requirement
+  pub levels_are : m.levels ≡ levels
   pub skid : s < m.plant.skids
   pub task : t < m.plant.tasks
 
 -- what the choices are searched in, and one of them put into its entry
 pub record SearchReads (sets lattice requirement group level levels : List ℕ) (s t tanks : ℕ) (m : Monitor) : Type 0 where
   pub wishes : WishReads requirement levels s t m
-  pub sets-are : m.plant.lattice_sets ≡ sets
-  pub lattice-is : m.plant.requirement_lattice ≡ lattice
-  pub group-is : m.plant.tank_group ≡ group
-  pub level-is : m.plant.tank_level ≡ level
-  pub tanks-are : m.plant.tanks ≡ tanks
+  pub sets_are : m.plant.lattice_sets ≡ sets
+  pub lattice_is : m.plant.requirement_lattice ≡ lattice
+  pub group_is : m.plant.tank_group ≡ group
+  pub level_is : m.plant.tank_level ≡ level
+  pub tanks_are : m.plant.tanks ≡ tanks
 
 abbrev pub EntryPut : Monitor → ℕ → ℕ → ℕ → List ℕ → List ℕ → Type 0
-EntryPut m s t g made made' = made' ≡ cond (eqb (wishOf m s t (requirementOf m.plant g)) unset) made
-    (ListN.set made (g * 16 + wishOf m s t (requirementOf m.plant g)) (choice m.plant g (wishOf m s t)))
+EntryPut m s t g made made' = made' ≡ cond (eqb (wish_of m s t (requirement_of m.plant g)) unset) made
+    (ListN.set made (g * 16 + wish_of m s t (requirement_of m.plant g)) (choice m.plant g (wish_of m s t)))
 
 -- what the late conditions read
 pub record LateReads (requirement levels made : List ℕ) (s t : ℕ) (m : Monitor) : Type 0 where
@@ -67,20 +67,20 @@ pub record LateReads (requirement levels made : List ℕ) (s t : ℕ) (m : Monit
 
 -- what is found at one needed group, whose tank goes to the row
 pub record GroupDone (m : Monitor) (s t g : ℕ) (row : List ℕ) (number : ℕ) (row' : List ℕ) : Type 0 where
-  pub answers : number ≡ first (eqb (wishOf m s t (requirementOf m.plant g)) unset gives 27 ∷ not (served m.plant g (wishOf m s t)) gives 28 ∷ [])
-  pub chooses : row' ≡ cond (eqb (wishOf m s t (requirementOf m.plant g)) unset) row (ListN.set row g (choice m.plant g (wishOf m s t)))
+  pub answers : number ≡ first (eqb (wish_of m s t (requirement_of m.plant g)) unset gives 27 ∷ not (served m.plant g (wish_of m s t)) gives 28 ∷ [])
+  pub chooses : row' ≡ cond (eqb (wish_of m s t (requirement_of m.plant g)) unset) row (ListN.set row g (choice m.plant g (wish_of m s t)))
 
 -- what is found over all groups; nobody reads the row of a start that is refused
 pub record RowDone (m : Monitor) (s t number : ℕ) (row : List ℕ) : Type 0 where
-  pub answers : number ≡ first (lateTests m s t)
-  pub chooses : number ≡ 0 → (g : ℕ) → g < 8 → get_row row g ≡ pickFor m.plant t (wishOf m s t) g
+  pub answers : number ≡ first (late_tests m s t)
+  pub chooses : number ≡ 0 → (g : ℕ) → g < 8 → get_row row g ≡ pick_for m.plant t (wish_of m s t) g
 
 -- what a start that is accepted stores its task and its tanks in, and what the late conditions and the storing do
 pub record StoreReads (requirement levels made running chosen : List ℕ) (s t : ℕ) (m : Monitor) : Type 0 where
   pub reads : LateReads requirement levels made s t m
-  pub running-is : m.running ≡ running
+  pub running_is : m.running ≡ running
   pub chosen_is : m.chosen ≡ chosen
 
 pub record LateDone (m : Monitor) (s t number : ℕ) (left : Monitor) : Type 0 where
-  pub answers : number ≡ first (lateTests m s t)
+  pub answers : number ≡ first (late_tests m s t)
   pub leaves : left ≡ cond (eqb number 0) (changed m.plant m (start s t)) m

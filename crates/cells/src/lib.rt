@@ -2,7 +2,7 @@
 #![tactic(auto)]
 
 ghost use Rattle.std.specs.Prelude.{◌≡◌, ◌+◌, ◌*◌, ◌<◌, ◌≤◌, length};
-ghost use Rattle.layout.specs.Layout.{word_at, place, bytes_of, words_of, zeroAt, zerosAt, Cells};
+ghost use Rattle.layout.specs.Layout.{word_at, place, bytes_of, words_of, zero_at, zeros_at, Cells};
 
 fn short(x: u8) -> u16
     ensures { (result ≡ x) × (result < 256) }
@@ -55,18 +55,18 @@ pub fn words_into(s: &[u8], w: usize, from: usize, run: usize, n: usize, out: &m
 fn zero_cell(s: &[u8], w: usize, from: usize, n: usize, k: usize) -> bool
     requires cells { Cells w from 1 1 n }
     requires in_bounds { (n * w ≤ length s.now) × (k < n) }
-    ensures { result ≡ zeroAt s.now w from k }
+    ensures { result ≡ zero_at s.now w from k }
 {
     let at = place_of(w, from, 1, 1, n, k);
     s[at] == 0
 }
 
 // Whether byte `from` of each of n records is zero.
-#[tactic(auto, using(base::proofs::Scan::scan), unfolding(layout::specs::Layout::zerosAt))]
+#[tactic(auto, using(base::proofs::Scan::scan), unfolding(layout::specs::Layout::zeros_at))]
 pub fn zeros_at(s: &[u8], w: usize, from: usize, n: usize) -> bool
     requires cells { Cells w from 1 1 n }
     requires in_bounds { n * w ≤ length s.now }
-    ensures { result ≡ zerosAt s.now w from n }
+    ensures { result ≡ zeros_at s.now w from n }
 {
     for k in 0..n {
         if !zero_cell(s, w, from, n, k) {

@@ -2,11 +2,11 @@
 #![tactic(auto)]
 
 ghost use Rattle.std.specs.Prelude.{◌≡◌, ◌<◌, ◌≤◌, get_or};
-ghost use Rattle.base.specs.Below.{anyBelow};
+ghost use Rattle.base.specs.Below.{any_below};
 ghost use Rattle.layout.specs.Layout.{sections};
-ghost use Rattle.layout.specs.Header.{countOk};
-ghost use Rattle.plant.specs.Plant.{latticeFrom};
-ghost use Rattle.plant.specs.Checks.{Fits, entryIs, countsIn, refusalsOf, firstNumber, latticesRefusal, plantRefusal};
+ghost use Rattle.layout.specs.Header.{count_ok};
+ghost use Rattle.plant.specs.Plant.{lattice_from};
+ghost use Rattle.plant.specs.Checks.{Fits, entry_is, counts_in, refusals_of, first_number, lattices_refusal, plant_refusal};
 
 use header::{SECTIONS, count_ok};
 use items::items_refusal;
@@ -18,13 +18,13 @@ use sets::wide;
 // 3: the counts.
 fn count_at(counts: &[u8; SECTIONS], kind: usize) -> bool
     requires { kind < sections }
-    ensures { result ≡ countOk kind (get_or counts.now kind 0) }
+    ensures { result ≡ count_ok kind (get_or counts.now kind 0) }
 {
     count_ok(kind, wide(counts[kind]))
 }
 
 fn counts_in(p: Plant) -> bool
-    ensures { result ≡ countsIn p }
+    ensures { result ≡ counts_in p }
 {
     let counts = [
         p.lattices,
@@ -45,7 +45,7 @@ fn counts_in(p: Plant) -> bool
 // 7 to 9: the number that refuses each lattice, and whether one of them is k.
 fn lattice_at<'a>(sizes: &'a [u8; 8], sets: &'a [u16; 128], l: usize) -> Lattice
     requires { l < 8 }
-    ensures { result ≡ latticeFrom sizes.now sets.now l }
+    ensures { result ≡ lattice_from sizes.now sets.now l }
 {
     let mut row = [0u16; 16];
     for i in 0..16 {
@@ -59,7 +59,7 @@ fn lattice_at<'a>(sizes: &'a [u8; 8], sets: &'a [u16; 128], l: usize) -> Lattice
 
 fn refusals<'a>(sizes: &'a [u8; 8], sets: &'a [u16; 128], n: usize) -> [u8; 8]
     requires { n ≤ 8 }
-    ensures { result ≡ refusalsOf sizes.now sets.now n }
+    ensures { result ≡ refusals_of sizes.now sets.now n }
 {
     let mut numbers = [0u8; 8];
     for l in 0..n {
@@ -70,7 +70,7 @@ fn refusals<'a>(sizes: &'a [u8; 8], sets: &'a [u16; 128], n: usize) -> [u8; 8]
 
 fn any_is(numbers: &[u8; 8], n: usize, k: u8) -> bool
     requires { n ≤ 8 }
-    ensures { result ≡ anyBelow (entryIs numbers.now k) n }
+    ensures { result ≡ any_below (entry_is numbers.now k) n }
 {
     for l in 0..n {
         if numbers[l] == k {
@@ -83,7 +83,7 @@ fn any_is(numbers: &[u8; 8], n: usize, k: u8) -> bool
 // 7, 8 or 9, whichever first stands among the numbers, or 0.
 fn first_number(numbers: &[u8; 8], n: usize) -> u8
     requires { n ≤ 8 }
-    ensures { result ≡ firstNumber numbers.now n }
+    ensures { result ≡ first_number numbers.now n }
 {
     if any_is(numbers, n, 7) {
         return 7;
@@ -100,7 +100,7 @@ fn first_number(numbers: &[u8; 8], n: usize) -> u8
 // Each lattice is tested once, and then each number asked of all of them.
 fn lattices_refusal(p: Plant) -> u8
     requires { Fits p }
-    ensures { result ≡ latticesRefusal p }
+    ensures { result ≡ lattices_refusal p }
 {
     let n = p.lattices as usize;
     let numbers = refusals(&p.lattice_sizes, &p.lattice_sets, n);
@@ -109,9 +109,9 @@ fn lattices_refusal(p: Plant) -> u8
 
 // The number that refuses a plant record, or 0. The two tests say whether the bytes of the file that are always zero are: those of the
 // lattice records, and those of the others. A record has no such bytes.
-#[tactic(auto, unfolding(plant::specs::Checks::plantRefusal, plant::specs::Checks::latticesRefusal, plant::specs::Checks::itemsRefusal))]
+#[tactic(auto, unfolding(plant::specs::Checks::plant_refusal, plant::specs::Checks::lattices_refusal, plant::specs::Checks::items_refusal))]
 pub fn refusal(p: Plant, zeros7: bool, zeros10: bool) -> u8
-    ensures { result ≡ plantRefusal zeros7 zeros10 p }
+    ensures { result ≡ plant_refusal zeros7 zeros10 p }
 {
     if !counts_in(p) {
         return 3;

@@ -3,7 +3,7 @@
 
 ghost use Rattle.std.specs.Prelude.{◌≡◌, true, ◌<◌, ◌≤◌, length};
 ghost use Rattle.base.specs.Below.{all_below};
-ghost use Rattle.plant.specs.Checks.{entryBelow};
+ghost use Rattle.plant.specs.Checks.{entry_below};
 ghost use Rattle.choice.specs.Table.{link_in, ChoicesIn, Tabled, Put};
 
 use nearest::{nearest_for, places_of};
@@ -36,8 +36,8 @@ pub fn make_choices<'a>(
 )
     requires counts_in { (groups ≤ 8) × (tanks ≤ 64) }
     requires links_in { all_below (link_in lattice.now requirement.now) groups ≡ true }
-    requires groups_in { all_below (entryBelow group.now groups) tanks ≡ true }
-    requires levels_in { all_below (entryBelow level.now 16) tanks ≡ true }
+    requires groups_in { all_below (entry_below group.now groups) tanks ≡ true }
+    requires levels_in { all_below (entry_below level.now 16) tanks ≡ true }
     requires tabled { Tabled sets.now group.now level.now lattice.now requirement.now groups tanks made.old }
     ensures { ChoicesIn sets.now group.now level.now lattice.now requirement.now groups tanks made.new }
 {

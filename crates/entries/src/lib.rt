@@ -4,7 +4,7 @@
 ghost use Rattle.std.specs.Prelude.{◌≡◌, true, ◌<◌, ◌≤◌, get_or, replicate};
 ghost use Rattle.base.specs.Below.{all_below};
 ghost use Rattle.base.specs.Fill.{fill};
-ghost use Rattle.plant.specs.Checks.{Fits, entryBelow, tankFitsIn, tankFits, numbersOk, levelsOfGroup};
+ghost use Rattle.plant.specs.Checks.{Fits, entry_below, tank_fits_in, tank_fits, numbers_ok, levels_of_group};
 
 use plant::Plant;
 use sets::wide;
@@ -13,7 +13,7 @@ use tasks::{skids_fit, tasks_fit};
 // Each of n entries is below a bound.
 fn all_below(xs: &[u8; 8], n: usize, bound: u8) -> bool
     requires { n ≤ 8 }
-    ensures { result ≡ all_below (entryBelow xs.now bound) n }
+    ensures { result ≡ all_below (entry_below xs.now bound) n }
 {
     for i in 0..n {
         if bound <= xs[i] {
@@ -26,7 +26,7 @@ fn all_below(xs: &[u8; 8], n: usize, bound: u8) -> bool
 // How many levels the requirement of a group has, and the list of these.
 fn levels_at<'a>(sizes: &'a [u8; 8], lattice: &'a [u8; 8], requirement: &'a [u8; 8], g: usize) -> u8
     requires { (g < 8) × ((get_or requirement.now g 0 < 8) × (get_or lattice.now (get_or requirement.now g 0) 0 < 8)) }
-    ensures { result ≡ levelsOfGroup sizes.now lattice.now requirement.now g }
+    ensures { result ≡ levels_of_group sizes.now lattice.now requirement.now g }
 {
     let d = wide(requirement[g]);
     let l = wide(lattice[d]);
@@ -42,9 +42,9 @@ fn levels_by_group<'a>(
     groups: u8,
 ) -> [u8; 8]
     requires counts_in { (lattices ≤ 8) × ((requirements ≤ 8) × (groups ≤ 8)) }
-    requires requirements_in { all_below (entryBelow lattice.now lattices) requirements ≡ true }
-    requires groups_in { all_below (entryBelow requirement.now requirements) groups ≡ true }
-    ensures { result ≡ fill (levelsOfGroup sizes.now lattice.now requirement.now) (replicate 8 0) groups }
+    requires requirements_in { all_below (entry_below lattice.now lattices) requirements ≡ true }
+    requires groups_in { all_below (entry_below requirement.now requirements) groups ≡ true }
+    ensures { result ≡ fill (levels_of_group sizes.now lattice.now requirement.now) (replicate 8 0) groups }
 {
     let mut levels = [0u8; 8];
     let n = groups as usize;
@@ -56,7 +56,7 @@ fn levels_by_group<'a>(
 
 fn tank_fits(group: u8, level: u8, groups: u8, levels: &[u8; 8]) -> bool
     requires { groups ≤ 8 }
-    ensures { result ≡ tankFitsIn levels.now groups group level }
+    ensures { result ≡ tank_fits_in levels.now groups group level }
 {
     if groups <= group {
         return false;
@@ -72,7 +72,7 @@ fn tanks_within<'a>(
     levels: &[u8; 8],
 ) -> bool
     requires { (groups ≤ 8) × (tanks ≤ 64) }
-    ensures { result ≡ all_below (λ o. tankFitsIn levels.now groups (get_or group.now o 0) (get_or level.now o 0)) tanks }
+    ensures { result ≡ all_below (λ o. tank_fits_in levels.now groups (get_or group.now o 0) (get_or level.now o 0)) tanks }
 {
     let n = tanks as usize;
     for o in 0..n {
@@ -85,9 +85,9 @@ fn tanks_within<'a>(
 
 fn tanks_fit(p: Plant) -> bool
     requires fits { Fits p }
-    requires requirements_in { all_below (entryBelow p.requirement_lattice p.lattices) p.requirements ≡ true }
-    requires groups_in { all_below (entryBelow p.group_requirement p.requirements) p.groups ≡ true }
-    ensures { result ≡ all_below (tankFits p) p.tanks }
+    requires requirements_in { all_below (entry_below p.requirement_lattice p.lattices) p.requirements ≡ true }
+    requires groups_in { all_below (entry_below p.group_requirement p.requirements) p.groups ≡ true }
+    ensures { result ≡ all_below (tank_fits p) p.tanks }
 {
     let levels = levels_by_group(
         &p.lattice_sizes,
@@ -100,10 +100,10 @@ fn tanks_fit(p: Plant) -> bool
     tanks_within(&p.tank_group, &p.tank_level, p.groups, p.tanks, &levels)
 }
 
-#[tactic(auto, unfolding(plant::specs::Checks::numbersOk))]
+#[tactic(auto, unfolding(plant::specs::Checks::numbers_ok))]
 pub fn numbers_ok(p: Plant) -> bool
     requires { Fits p }
-    ensures { result ≡ numbersOk p }
+    ensures { result ≡ numbers_ok p }
 {
     let requirements = p.requirements as usize;
     if !all_below(&p.requirement_lattice, requirements, p.lattices) {

@@ -2,8 +2,8 @@
 use Rattle.std.specs.Prelude.{ℕ, ◌-◌, List, [], ◌∷◌, ◌++◌, eqb, length, replicate}
 use Rattle.std.proofs.Math.ListN as ListN
 use Rattle.lattice.specs.declared.Lattice.{Lattice}
-use Rattle.lattice.specs.Levels.{latticeRefusal}
-use Rattle.layout.specs.Header.{sectionOf}
+use Rattle.lattice.specs.Levels.{lattice_refusal}
+use Rattle.layout.specs.Header.{section_of}
 use Rattle.opening.specs.Reading.{reading_of}
 use Rattle.inputs.specs.Case.{Case, same_list}
 use Rattle.inputs.specs.Plants.{session, crossed, with1, with2, flat, exchanged, padded, wide, rising, narrow}
@@ -12,24 +12,24 @@ use Rattle.inputs.specs.Plants.{session, crossed, with1, with2, flat, exchanged,
 unfoldable pub opening : List ℕ → ℕ → Case
 opening file number = eqb (reading_of file).answer number
 
-abbrev pub latticeRecord : List ℕ → Lattice
-latticeRecord sets = record { n = length sets; sets = sets ++ replicate (16 - length sets) 0 }
+abbrev pub lattice_record : List ℕ → Lattice
+lattice_record sets = record { n = length sets; sets = sets ++ replicate (16 - length sets) 0 }
 
 -- a lattice record with these sets, one for each level, and the number that refuses it, or 0
 unfoldable pub lattice : List ℕ → ℕ → Case
-lattice sets number = eqb (latticeRefusal (latticeRecord sets)) number
+lattice sets number = eqb (lattice_refusal (lattice_record sets)) number
 
 -- a plant file, a kind of section, and the bytes that the section call returns
 unfoldable pub section : List ℕ → ℕ → List ℕ → Case
-section file kind bytes = same_list (sectionOf file kind) bytes
+section file kind bytes = same_list (section_of file kind) bytes
 
 -- the sets of sixteen levels in a chain, each at or under those from its own number on
 unfoldable pub sixteen : List ℕ
 sixteen =
     65535 ∷ 65534 ∷ 65532 ∷ 65528 ∷ 65520 ∷ 65504 ∷ 65472 ∷ 65408 ∷ 65280 ∷ 65024 ∷ 64512 ∷ 63488 ∷ 61440 ∷ 57344 ∷ 49152 ∷ 32768 ∷ []
 
-unfoldable pub headerCases : List Case
-headerCases =
+unfoldable pub header_cases : List Case
+header_cases =
     -- opening's numbers, each by the paper's plant one byte away from being right: 1, 2, 3, 4, 5, 6, 7, 8
     opening (with1 20 131) 1
     ∷ opening (with1 0 2) 2
@@ -47,8 +47,8 @@ headerCases =
     ∷ opening (with1 28 4) 8
     ∷ []
 
-unfoldable pub itemCases : List Case
-itemCases =
+unfoldable pub item_cases : List Case
+item_cases =
     -- 9, and 8 of one lattice before 9 of another
     opening flat 9
     ∷ opening (ListN.set flat 28 4) 8
@@ -66,8 +66,8 @@ itemCases =
     ∷ opening (with2 0 2 7 1) 2
     ∷ []
 
-unfoldable pub orderCases : List Case
-orderCases =
+unfoldable pub order_cases : List Case
+order_cases =
     -- of two faults the one written first decides: 1 before 2, 2 before 3, and so on to 7 before 8
     opening (with2 20 131 0 2) 1
     ∷ opening (with2 0 2 4 65) 2
@@ -78,8 +78,8 @@ orderCases =
     ∷ opening (with2 25 1 28 4) 7
     ∷ []
 
-unfoldable pub firstCases : List Case
-firstCases =
+unfoldable pub first_cases : List Case
+first_cases =
     -- of two broken checks the first decides, over the whole file: 7 of lattice 1 before 8 of lattice 0, 9 before 10, 10 before 11 and 12, 11 before 12
     opening (with2 28 4 58 17) 7
     ∷ opening (ListN.set flat 93 1) 9
@@ -91,8 +91,8 @@ firstCases =
     ∷ opening (ListN.set flat 94 0) 9
     ∷ []
 
-unfoldable pub boundCases : List Case
-boundCases =
+unfoldable pub bound_cases : List Case
+bound_cases =
     -- 3: each count one past its limit
     opening (with1 1 9) 3
     ∷ opening (with1 2 9) 3
@@ -113,8 +113,8 @@ boundCases =
     ∷ opening (with1 129 1) 10
     ∷ []
 
-unfoldable pub numberCases : List Case
-numberCases =
+unfoldable pub number_cases : List Case
+number_cases =
     -- 10, of the last item of each kind: the lattice of a requirement that no group has, a group's requirement, a tank's group, what task 1 names,
     -- its right on group 2 and a fourth right, and a skid's task in either byte
     opening (with2 98 0 94 2) 10
@@ -135,8 +135,8 @@ numberCases =
     ∷ opening (ListN.set exchanged 107 3) 10
     ∷ []
 
-unfoldable pub ruleCases : List Case
-ruleCases =
+unfoldable pub rule_cases : List Case
+rule_cases =
     -- 11: two tanks of group 1, and the first and the last tank; two groups of one requirement may each have a tank at one level
     opening (with1 107 1) 11
     ∷ opening (with2 106 0 107 0) 11
@@ -146,8 +146,8 @@ ruleCases =
     ∷ opening (with1 118 3) 0
     ∷ []
 
-unfoldable pub readingCases : List Case
-readingCases =
+unfoldable pub reading_cases : List Case
+reading_cases =
     -- gaps of any content, the longest file, and one byte more
     opening (padded 300) 0
     ∷ opening (padded 4096) 0
@@ -161,8 +161,8 @@ readingCases =
     ∷ opening (with1 4 2) 0
     ∷ []
 
-unfoldable pub latticeCases : List Case
-latticeCases =
+unfoldable pub lattice_cases : List Case
+lattice_cases =
     -- three levels, of which the first two have no meet, and the last two no join
     lattice (5 ∷ 6 ∷ 4 ∷ []) 9
     ∷ lattice (7 ∷ 2 ∷ 4 ∷ []) 9
@@ -180,8 +180,8 @@ latticeCases =
     ∷ lattice (sixteen ++ (0 ∷ [])) 7
     ∷ []
 
-unfoldable pub sectionCases : List Case
-sectionCases =
+unfoldable pub section_cases : List Case
+section_cases =
     -- each section, and none of another kind or of a file that fails 6; a file that fails 12 has its sections
     section session 1 (0 ∷ 0 ∷ 1 ∷ 0 ∷ [])
     ∷ section session 2 (0 ∷ 0 ∷ 1 ∷ 0 ∷ [])
@@ -194,8 +194,8 @@ sectionCases =
     ∷ section (with1 10 91) 5 []
     ∷ []
 
-unfoldable pub limitCases : List Case
-limitCases =
+unfoldable pub limit_cases : List Case
+limit_cases =
     -- the shortest file that 1 takes, one that says a byte more than it has, and edition 0
     opening (ListN.take 24 (with1 20 24)) 5
     ∷ opening (with1 20 133) 1
@@ -214,8 +214,8 @@ limitCases =
     ∷ opening (with1 56 1) 7
     ∷ []
 
-unfoldable pub countCases : List Case
-countCases =
+unfoldable pub count_cases : List Case
+count_cases =
     -- the last item of each kind where the counts fall: 8 of a lattice; 10 of a requirement, a group, a tank, a task's names and rights, and a skid; 11; 12
     opening (ListN.set narrow 198 3) 8
     ∷ opening (ListN.set narrow 236 6) 10
@@ -232,8 +232,8 @@ countCases =
     ∷ opening (ListN.set rising 126 0) 12
     ∷ []
 
-unfoldable pub zeroCases : List Case
-zeroCases =
+unfoldable pub zero_cases : List Case
+zero_cases =
     -- the byte that is always zero of the last lattice, requirement, group and task
     opening (with1 59 1) 7
     ∷ opening (with1 95 1) 10
@@ -241,5 +241,5 @@ zeroCases =
     ∷ opening (with1 119 1) 10
     ∷ []
 
-unfoldable pub casesOfFiles : List (List Case)
-casesOfFiles = headerCases ∷ itemCases ∷ orderCases ∷ firstCases ∷ boundCases ∷ numberCases ∷ ruleCases ∷ readingCases ∷ latticeCases ∷ sectionCases ∷ limitCases ∷ countCases ∷ zeroCases ∷ []
+unfoldable pub cases_of_files : List (List Case)
+cases_of_files = header_cases ∷ item_cases ∷ order_cases ∷ first_cases ∷ bound_cases ∷ number_cases ∷ rule_cases ∷ reading_cases ∷ lattice_cases ∷ section_cases ∷ limit_cases ∷ count_cases ∷ zero_cases ∷ []

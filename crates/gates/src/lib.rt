@@ -6,7 +6,7 @@ ghost use Rattle.plant.specs.declared.Plant.{Plant};
 ghost use Rattle.rules.specs.declared.Monitor.{Monitor};
 ghost use Rattle.rules.specs.Rules.{View, gate, holds, refusal};
 ghost use Rattle.rules.specs.Record.{view_of};
-ghost use Rattle.calls.specs.Lent.{plantCounts, Does, GateReads, GrantReads, HeldReads, GrantedReads};
+ghost use Rattle.calls.specs.Lent.{plant_counts, Does, GateReads, GrantReads, HeldReads, GrantedReads};
 
 use calls::PlantCounts;
 use plant::Right;
@@ -14,14 +14,14 @@ use sets::wide;
 
 // Whether the skid, the tank and the right of a gate are there. The three are tested at once, so that a gate that is not refused asks once.
 fn gate_there(counts: PlantCounts, s: u8, o: u8, r: u8) -> bool
-    ensures { (P : Plant) (vs : ℕ → View) → plantCounts P ≡ counts → result ≡ eqb (refusal P vs (gate s o r)) 0 }
+    ensures { (P : Plant) (vs : ℕ → View) → plant_counts P ≡ counts → result ≡ eqb (refusal P vs (gate s o r)) 0 }
 {
     (s < counts.skids) & (o < counts.tanks) & Right::valid(r)
 }
 
 // The number of a gate that is refused: 21, 29 or 30.
 fn gate_refusal(counts: PlantCounts, s: u8, o: u8, r: u8) -> u8
-    ensures { (P : Plant) (vs : ℕ → View) → plantCounts P ≡ counts → refusal P vs (gate s o r) ≢ 0 → result ≡ refusal P vs (gate s o r) }
+    ensures { (P : Plant) (vs : ℕ → View) → plant_counts P ≡ counts → refusal P vs (gate s o r) ≢ 0 → result ≡ refusal P vs (gate s o r) }
 {
     if counts.skids <= s {
         return 21;

@@ -2,8 +2,8 @@
 #![tactic(auto)]
 
 ghost use Rattle.std.specs.Prelude.{◌≡◌, ◌+◌, ◌*◌, ◌<◌, ◌≤◌, length};
-ghost use Rattle.layout.specs.Layout.{word_at, sections, headerBytes, length_at, width, limit, count, offset, end};
-ghost use Rattle.layout.specs.Header.{lengthOk, editionOk, countOk, countsOk, zerosOk};
+ghost use Rattle.layout.specs.Layout.{word_at, sections, header_bytes, length_at, width, limit, count, offset, end};
+ghost use Rattle.layout.specs.Header.{length_ok, edition_ok, count_ok, counts_ok, zeros_ok};
 
 // The kinds of section, in the header's order.
 pub const LATTICES: usize = 0;
@@ -67,28 +67,28 @@ fn word_at(s: &[u8], i: usize) -> usize
 
 // How many records a section has, as the header has it, and as a number.
 pub fn count_byte(file: &[u8], kind: usize) -> u8
-    requires { (headerBytes ≤ length file.now) × (kind < sections) }
+    requires { (header_bytes ≤ length file.now) × (kind < sections) }
     ensures { result ≡ count file.now kind }
 {
     file[COUNTS_AT + kind]
 }
 
 pub fn count_of(file: &[u8], kind: usize) -> usize
-    requires { (headerBytes ≤ length file.now) × (kind < sections) }
+    requires { (header_bytes ≤ length file.now) × (kind < sections) }
     ensures { (result ≡ count file.now kind) × (result < 256) }
 {
     wide(count_byte(file, kind))
 }
 
 pub fn offset_of(file: &[u8], kind: usize) -> usize
-    requires { (headerBytes ≤ length file.now) × (kind < sections) }
+    requires { (header_bytes ≤ length file.now) × (kind < sections) }
     ensures { (result ≡ offset file.now kind) × (result < 65536) }
 {
     word_at(file, OFFSETS_AT + kind * 2)
 }
 
 pub fn end_of(file: &[u8], kind: usize) -> usize
-    requires { (headerBytes ≤ length file.now) × (kind < sections) }
+    requires { (header_bytes ≤ length file.now) × (kind < sections) }
     ensures { result ≡ end file.now kind }
 {
     offset_of(file, kind) + count_of(file, kind) * width_of(kind)
@@ -96,16 +96,16 @@ pub fn end_of(file: &[u8], kind: usize) -> usize
 
 // How long the file says that it is.
 pub fn length_said(file: &[u8]) -> usize
-    requires { headerBytes ≤ length file.now }
+    requires { header_bytes ≤ length file.now }
     ensures { (result ≡ word_at file.now length_at) × (result < 65536) }
 {
     word_at(file, LENGTH_AT)
 }
 
 // 1: the length.
-#[tactic(auto, unfolding(layout::specs::Header::lengthOk))]
+#[tactic(auto, unfolding(layout::specs::Header::length_ok))]
 pub fn length_ok(file: &[u8]) -> bool
-    ensures { result ≡ lengthOk file.now }
+    ensures { result ≡ length_ok file.now }
 {
     if file.len() < HEADER_BYTES {
         return false;
@@ -117,27 +117,27 @@ pub fn length_ok(file: &[u8]) -> bool
 }
 
 // 2: the edition.
-#[tactic(auto, unfolding(layout::specs::Header::editionOk))]
+#[tactic(auto, unfolding(layout::specs::Header::edition_ok))]
 pub fn edition_ok(file: &[u8]) -> bool
-    requires { headerBytes ≤ length file.now }
-    ensures { result ≡ editionOk file.now }
+    requires { header_bytes ≤ length file.now }
+    ensures { result ≡ edition_ok file.now }
 {
     file[0] == 1
 }
 
 // 3: the counts.
-#[tactic(auto, unfolding(layout::specs::Header::countOk))]
+#[tactic(auto, unfolding(layout::specs::Header::count_ok))]
 pub fn count_ok(kind: usize, count: usize) -> bool
     requires { kind < sections }
-    ensures { result ≡ countOk kind count }
+    ensures { result ≡ count_ok kind count }
 {
     1 <= count && count <= limit_of(kind)
 }
 
-#[tactic(auto, using(base::proofs::Scan::scan), unfolding(layout::specs::Header::countsOk))]
+#[tactic(auto, using(base::proofs::Scan::scan), unfolding(layout::specs::Header::counts_ok))]
 pub fn counts_ok(file: &[u8]) -> bool
-    requires { headerBytes ≤ length file.now }
-    ensures { result ≡ countsOk file.now }
+    requires { header_bytes ≤ length file.now }
+    ensures { result ≡ counts_ok file.now }
 {
     for kind in 0..SECTIONS {
         if !count_ok(kind, count_of(file, kind)) {
@@ -148,10 +148,10 @@ pub fn counts_ok(file: &[u8]) -> bool
 }
 
 // 4: the header's zero bytes.
-#[tactic(auto, unfolding(layout::specs::Header::zerosOk))]
+#[tactic(auto, unfolding(layout::specs::Header::zeros_ok))]
 pub fn zeros_ok(file: &[u8]) -> bool
-    requires { headerBytes ≤ length file.now }
-    ensures { result ≡ zerosOk file.now }
+    requires { header_bytes ≤ length file.now }
+    ensures { result ≡ zeros_ok file.now }
 {
     if file[7] != 0 {
         return false;

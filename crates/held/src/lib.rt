@@ -5,8 +5,8 @@ ghost use Rattle.std.specs.Prelude.{◌≡◌, [], ◌∷◌, ◌+◌, ◌/◌, 
 ghost use Rattle.base.specs.Overlay.{overlay, Wrote};
 ghost use Rattle.rules.specs.declared.Monitor.{Monitor};
 ghost use Rattle.calls.specs.Lent.{GateReads, HeldReads};
-ghost use Rattle.listing.specs.Held.{rightBytes, listing};
-ghost use Rattle.listing.specs.Parts.{held_at, heldOn, heldBy, heldRights, RoomFor};
+ghost use Rattle.listing.specs.Held.{right_bytes, listing};
+ghost use Rattle.listing.specs.Parts.{held_at, held_on, held_by, held_rights, RoomFor};
 
 use calls::PlantCounts;
 use gates::is_held;
@@ -38,7 +38,7 @@ fn write_right<'a, 'b>(
 ) -> usize
     requires { (m : Monitor) × (HeldReads group.now rights.now running.now chosen.now s o m × RoomFor (held_at m s o r) out.old at) }
     ensures { (m : Monitor) → HeldReads group.now rights.now running.now chosen.now s o m
-        → RoomFor (held_at m s o r) out.old at → Wrote (rightBytes (held_at m s o r)) out.old at out.new result }
+        → RoomFor (held_at m s o r) out.old at → Wrote (right_bytes (held_at m s o r)) out.old at out.new result }
 {
     if is_held(group, rights, running, chosen, s as usize, o, r) {
         return put_right(out, at, s, o, r);
@@ -57,9 +57,9 @@ fn write_tank<'a, 'b>(
     out: &mut [u8],
     at: usize,
 ) -> usize
-    requires { (m : Monitor) × (HeldReads group.now rights.now running.now chosen.now s o m × RoomFor (heldOn m s o) out.old at) }
+    requires { (m : Monitor) × (HeldReads group.now rights.now running.now chosen.now s o m × RoomFor (held_on m s o) out.old at) }
     ensures { (m : Monitor) → HeldReads group.now rights.now running.now chosen.now s o m
-        → RoomFor (heldOn m s o) out.old at → Wrote (rightBytes (heldOn m s o)) out.old at out.new result }
+        → RoomFor (held_on m s o) out.old at → Wrote (right_bytes (held_on m s o)) out.old at out.new result }
 {
     let numbers = Right::all();
     let mut end = at;
@@ -80,9 +80,9 @@ fn write_skid<'a, 'b>(
     at: usize,
 ) -> usize
     requires in_range { s < counts.skids }
-    requires reads { (m : Monitor) × (GateReads counts group.now rights.now running.now chosen.now m × RoomFor (heldBy m s) out.old at) }
+    requires reads { (m : Monitor) × (GateReads counts group.now rights.now running.now chosen.now m × RoomFor (held_by m s) out.old at) }
     ensures { (m : Monitor) → GateReads counts group.now rights.now running.now chosen.now m
-        → RoomFor (heldBy m s) out.old at → Wrote (rightBytes (heldBy m s)) out.old at out.new result }
+        → RoomFor (held_by m s) out.old at → Wrote (right_bytes (held_by m s)) out.old at out.new result }
 {
     let mut end = at;
     let mut o: u8 = 0;
@@ -102,9 +102,9 @@ fn write_skids<'a, 'b>(
     out: &mut [u8],
     at: usize,
 ) -> usize
-    requires { (m : Monitor) × (GateReads counts group.now rights.now running.now chosen.now m × RoomFor (heldRights m) out.old at) }
+    requires { (m : Monitor) × (GateReads counts group.now rights.now running.now chosen.now m × RoomFor (held_rights m) out.old at) }
     ensures { (m : Monitor) → GateReads counts group.now rights.now running.now chosen.now m
-        → RoomFor (heldRights m) out.old at → Wrote (rightBytes (heldRights m)) out.old at out.new result }
+        → RoomFor (held_rights m) out.old at → Wrote (right_bytes (held_rights m)) out.old at out.new result }
 {
     let mut end = at;
     let mut s: u8 = 0;
@@ -135,7 +135,7 @@ pub fn write_held<'a, 'b>(
     requires reads { (m : Monitor) × GateReads counts group.now rights.now running.now chosen.now m }
     requires room { 577 ≤ length out.old }
     ensures { (m : Monitor) → GateReads counts group.now rights.now running.now chosen.now m
-        → out.new ≡ overlay out.old 0 (listing (heldRights m)) }
+        → out.new ≡ overlay out.old 0 (listing (held_rights m)) }
 {
     let end = write_skids(counts, group, rights, running, chosen, out, 1);
     out[0] = rights_in(end - 1);

@@ -1,19 +1,19 @@
 -- What a case of a plant file computes by: the plants, and every definition on the way from their bytes to opening's number and the plant.
 use mathlib.Core.List.{List}
 use Prim.Native.Nat.{ℕ}
-use Rattle.base.specs.Below.{all_below, anyBelow, firstBelow}
-use Rattle.base.specs.Bits.{noneFrom}
+use Rattle.base.specs.Below.{all_below, any_below, first_below}
+use Rattle.base.specs.Bits.{none_from}
 use Rattle.base.specs.Fill.{fill}
-use Rattle.lattice.specs.Levels.{layout, reflexive, antisymmetric, transitive, ordered, joined, complete, latticeRefusal}
-use Rattle.layout.specs.Layout.{place, zerosAt}
-use Rattle.layout.specs.Header.{lengthOk, editionOk, countOk, countsOk, zerosOk, inside, allInside, apart, allApart, headerRefusal}
-use Rattle.plant.specs.Checks.{countsIn, latticeFails, numbersOk, levelsDistinct, requirementsNamed, plantRefusal}
+use Rattle.lattice.specs.Levels.{layout, reflexive, antisymmetric, transitive, ordered, joined, complete, lattice_refusal}
+use Rattle.layout.specs.Layout.{place, zeros_at}
+use Rattle.layout.specs.Header.{length_ok, edition_ok, count_ok, counts_ok, zeros_ok, inside, all_inside, apart, all_apart, header_refusal}
+use Rattle.plant.specs.Checks.{counts_in, lattice_fails, numbers_ok, levels_distinct, requirements_named, plant_refusal}
 use Rattle.opening.specs.declared.Reading.{Reading}
-use Rattle.opening.specs.Reading.{latticeZeros, otherZeros, openingRefusal, reading_of}
+use Rattle.opening.specs.Reading.{lattice_zeros, other_zeros, opening_refusal, reading_of}
 use Rattle.inputs.specs.Case.{same_list}
-use Rattle.inputs.specs.Plants.{session, crossed, renumbered, tank0AtLevel1, flat, exchanged, pentagon, wide, smallest, rising, narrow}
+use Rattle.inputs.specs.Plants.{session, crossed, renumbered, tank0_at_level1, flat, exchanged, pentagon, wide, smallest, rising, narrow}
 
 -- whoever opens this opens all of them
 unfoldable pub reads : List ℕ → Reading
-unfolding all_below anyBelow firstBelow noneFrom fill layout reflexive antisymmetric transitive ordered joined complete latticeRefusal place zerosAt lengthOk editionOk countOk countsOk zerosOk inside allInside apart allApart headerRefusal countsIn latticeFails numbersOk levelsDistinct requirementsNamed plantRefusal latticeZeros otherZeros openingRefusal reading_of same_list session crossed renumbered tank0AtLevel1 flat exchanged pentagon wide smallest rising narrow
+unfolding all_below any_below first_below none_from fill layout reflexive antisymmetric transitive ordered joined complete lattice_refusal place zeros_at length_ok edition_ok count_ok counts_ok zeros_ok inside all_inside apart all_apart header_refusal counts_in lattice_fails numbers_ok levels_distinct requirements_named plant_refusal lattice_zeros other_zeros opening_refusal reading_of same_list session crossed renumbered tank0_at_level1 flat exchanged pentagon wide smallest rising narrow
 reads file = reading_of file

@@ -35,8 +35,8 @@ unfoldable pub renumbered : List ℕ
 renumbered = ListN.set (ListN.set (ListN.set (ListN.set (ListN.set (ListN.set (ListN.set (ListN.set session 100 1) 101 1) 102 1) 103 2) 104 0) 105 0) 106 0) 107 2
 
 -- The same plant with tank 0 at level 1, so that group 0 can lack a tank while group 1's level is unset.
-unfoldable pub tank0AtLevel1 : List ℕ
-tank0AtLevel1 = ListN.set session 101 1
+unfoldable pub tank0_at_level1 : List ℕ
+tank0_at_level1 = ListN.set session 101 1
 
 -- the paper's plant with one byte or two changed
 abbrev pub with1 : ℕ → ℕ → List ℕ
@@ -84,8 +84,8 @@ smallest =
     ∷ 1 ∷ 0 ∷ 1 ∷ 0 ∷ (replicate 30 0 ++ (0 ∷ 0 ∷ 0 ∷ 0 ∷ 0 ∷ 0 ∷ 1 ∷ 0 ∷ 1 ∷ 0 ∷ 0 ∷ 0 ∷ 0 ∷ 0 ∷ 0 ∷ 0 ∷ 1 ∷ 0 ∷ []))
 
 -- a lattice of one level
-abbrev pub oneLevel : List ℕ
-oneLevel = 1 ∷ 0 ∷ 1 ∷ replicate 31 0
+abbrev pub one_level : List ℕ
+one_level = 1 ∷ 0 ∷ 1 ∷ replicate 31 0
 
 -- Two plants for what counts one kind of item by another's count: it misses the last of them in one of the two. Here the counts rise: a lattice of
 -- two levels, two requirements, three groups, four tanks, five skids and six tasks. The last task, of skid 0 alone, returns to the last group, which
@@ -106,7 +106,7 @@ rising =
 unfoldable pub narrow : List ℕ
 narrow =
     1 ∷ 6 ∷ 5 ∷ 4 ∷ 3 ∷ 1 ∷ 2 ∷ 0 ∷ 24 ∷ 0 ∷ 228 ∷ 0 ∷ 238 ∷ 0 ∷ 246 ∷ 0 ∷ 252 ∷ 0 ∷ 6 ∷ 1 ∷ 10 ∷ 1 ∷ 0 ∷ 0
-    ∷ (oneLevel ++ (oneLevel ++ (oneLevel ++ (oneLevel ++ (oneLevel ++ (2 ∷ 0 ∷ 3 ∷ 0 ∷ 2 ∷ (replicate 29 0 ++ (
+    ∷ (one_level ++ (one_level ++ (one_level ++ (one_level ++ (one_level ++ (2 ∷ 0 ∷ 3 ∷ 0 ∷ 2 ∷ (replicate 29 0 ++ (
     -- requirements, groups, tanks, the task, skids
     0 ∷ 0 ∷ 0 ∷ 0 ∷ 0 ∷ 0 ∷ 0 ∷ 0 ∷ 5 ∷ 0
     ∷ 0 ∷ 0 ∷ 0 ∷ 0 ∷ 0 ∷ 0 ∷ 4 ∷ 0

@@ -3,7 +3,7 @@
 
 ghost use Rattle.std.specs.Prelude.{◌≡◌, true};
 ghost use Rattle.base.specs.Below.{all_below};
-ghost use Rattle.plant.specs.Checks.{Fits, entryBelow};
+ghost use Rattle.plant.specs.Checks.{Fits, entry_below};
 ghost use Rattle.rules.specs.Record.{intact};
 ghost use Rattle.test20.specs.Raw.{parts_in};
 
@@ -21,7 +21,7 @@ fn parts_ok<'a>(
     chosen: &'a [u8; 64],
 ) -> bool
     requires fits { Fits p }
-    requires lattices_in { all_below (entryBelow p.requirement_lattice 8) p.requirements ≡ true }
+    requires lattices_in { all_below (entry_below p.requirement_lattice 8) p.requirements ≡ true }
     ensures { result ≡ parts_in p levels.now running.now chosen.now }
 {
     let requirements = p.requirements as usize;

@@ -3,7 +3,7 @@
 
 ghost use Rattle.std.specs.Prelude.{◌≡◌, true, ◌+◌, ◌*◌, ◌<◌, ◌≤◌, get_or};
 ghost use Rattle.base.specs.Below.{all_below};
-ghost use Rattle.plant.specs.Checks.{Fits, entryBelow, levelsDistinct, requirementNamedIn, itemsRefusal};
+ghost use Rattle.plant.specs.Checks.{Fits, entry_below, levels_distinct, requirement_named_in, items_refusal};
 
 use entries::numbers_ok;
 use plant::Plant;
@@ -20,8 +20,8 @@ fn place(group: u8, level: u8) -> usize
 // 11: no two tanks of one group at one level: each tank in turn finds its place free, and takes it.
 fn levels_distinct(p: Plant) -> bool
     requires fits { Fits p }
-    requires groups_in { all_below (entryBelow p.tank_group 8) p.tanks ≡ true }
-    ensures { result ≡ levelsDistinct p }
+    requires groups_in { all_below (entry_below p.tank_group 8) p.tanks ≡ true }
+    ensures { result ≡ levels_distinct p }
 {
     let mut taken = [0u8; 2048];
     let n = p.tanks as usize;
@@ -38,7 +38,7 @@ fn levels_distinct(p: Plant) -> bool
 // 12: the task names the requirement of group g where it names a right there.
 fn is_named(names: u8, right: u8, requirement: u8) -> bool
     requires { requirement < 8 }
-    ensures { result ≡ requirementNamedIn names right requirement }
+    ensures { result ≡ requirement_named_in names right requirement }
 {
     if right == 0 {
         return true;
@@ -54,8 +54,8 @@ fn task_named<'a>(
     t: usize,
 ) -> bool
     requires counts_in { (groups ≤ 8) × (t < 16) }
-    requires requirements_in { all_below (entryBelow requirement.now 8) groups ≡ true }
-    ensures { result ≡ all_below (λ g. requirementNamedIn names (get_or rights.now (t * 8 + g) 0) (get_or requirement.now g 0)) groups }
+    requires requirements_in { all_below (entry_below requirement.now 8) groups ≡ true }
+    ensures { result ≡ all_below (λ g. requirement_named_in names (get_or rights.now (t * 8 + g) 0) (get_or requirement.now g 0)) groups }
 {
     for g in 0..groups {
         if !is_named(names, rights[t * 8 + g], requirement[g]) {
@@ -73,8 +73,8 @@ fn requirements_named<'a>(
     tasks: u8,
 ) -> bool
     requires counts_in { (groups ≤ 8) × (tasks ≤ 16) }
-    requires requirements_in { all_below (entryBelow requirement.now 8) groups ≡ true }
-    ensures { result ≡ all_below (λ t. all_below (λ g. requirementNamedIn (get_or names.now t 0)
+    requires requirements_in { all_below (entry_below requirement.now 8) groups ≡ true }
+    ensures { result ≡ all_below (λ t. all_below (λ g. requirement_named_in (get_or names.now t 0)
         (get_or rights.now (t * 8 + g) 0) (get_or requirement.now g 0)) groups) tasks }
 {
     let n = tasks as usize;
@@ -87,10 +87,10 @@ fn requirements_named<'a>(
 }
 
 // 10, 11 or 12, or 0.
-#[tactic(auto, unfolding(plant::specs::Checks::itemsRefusal, plant::specs::Checks::requirementsNamed))]
+#[tactic(auto, unfolding(plant::specs::Checks::items_refusal, plant::specs::Checks::requirements_named))]
 pub fn items_refusal(p: Plant) -> u8
     requires { Fits p }
-    ensures { result ≡ itemsRefusal p }
+    ensures { result ≡ items_refusal p }
 {
     if !numbers_ok(p) {
         return 10;

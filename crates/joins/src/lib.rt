@@ -3,8 +3,8 @@
 
 ghost use Rattle.std.specs.Prelude.{◌≡◌, get_or, ℕ, ◌^◌, ◌<◌, ◌≤◌};
 ghost use Rattle.lattice.specs.Levels.{complete};
-ghost use Rattle.lattice.specs.Sets.{withSets, underIn, OrderedSets, Turned, added, turnedSets};
-ghost use Rattle.lattice.specs.Table.{joinTable, rowFull, tableFull};
+ghost use Rattle.lattice.specs.Sets.{with_sets, under_in, OrderedSets, Turned, added, turned_sets};
+ghost use Rattle.lattice.specs.Table.{join_table, row_full, table_full};
 
 use rows::{join_row, numbers_to};
 
@@ -22,7 +22,7 @@ fn add_level(t: &mut [u16; 16], x: u16, i: usize)
 
 // The sets of the turned order, in which a join is a meet of the given one.
 fn turned(s: &[u16; 16]) -> [u16; 16]
-    ensures { result ≡ turnedSets s.now }
+    ensures { result ≡ turned_sets s.now }
 {
     let mut t = [0u16; 16];
     let mut i: usize = 0;
@@ -37,7 +37,7 @@ fn turned(s: &[u16; 16]) -> [u16; 16]
 fn joins<'a>(s: &'a [u16; 16], t: &'a [u16; 16], n: usize) -> [[u8; 16]; 16]
     requires ordered_sets { OrderedSets n s.now }
     requires turned { Turned n s.now t.now }
-    ensures { result ≡ joinTable n (underIn s.now) }
+    ensures { result ≡ join_table n (under_in s.now) }
 {
     let numbers = numbers_to(n);
     let row = [255u8; 16];
@@ -52,7 +52,7 @@ fn joins<'a>(s: &'a [u16; 16], t: &'a [u16; 16], n: usize) -> [[u8; 16]; 16]
 
 fn row_full(row: [u8; 16], n: usize) -> bool
     requires { n ≤ 16 }
-    ensures { result ≡ rowFull n row }
+    ensures { result ≡ row_full n row }
 {
     let mut j: usize = 0;
     while j < n {
@@ -67,7 +67,7 @@ fn row_full(row: [u8; 16], n: usize) -> bool
 // Each pair of levels has its entry.
 fn full(t: [[u8; 16]; 16], n: usize) -> bool
     requires { n ≤ 16 }
-    ensures { result ≡ tableFull n t }
+    ensures { result ≡ table_full n t }
 {
     let mut i: usize = 0;
     while i < n {
@@ -83,7 +83,7 @@ fn full(t: [[u8; 16]; 16], n: usize) -> bool
 // 9: each pair of levels has a join and a meet.
 pub fn is_complete(s: &[u16; 16], n: usize) -> bool
     requires { OrderedSets n s.now }
-    ensures { result ≡ complete (withSets n s.now) }
+    ensures { result ≡ complete (with_sets n s.now) }
 {
     let t = turned(s);
     let least_above = joins(s, &t, n);

@@ -3,8 +3,8 @@
 
 ghost use Rattle.std.specs.Prelude.{◌≡◌, ◌<◌, ◌≤◌};
 ghost use Rattle.base.specs.Below.{all_below};
-ghost use Rattle.lattice.specs.Levels.{setClear, layout, latticeRefusal};
-ghost use Rattle.lattice.specs.Sets.{withSets};
+ghost use Rattle.lattice.specs.Levels.{set_clear, layout, lattice_refusal};
+ghost use Rattle.lattice.specs.Sets.{with_sets};
 
 use above::in_order;
 use joins::is_complete;
@@ -14,7 +14,7 @@ use sets::wider;
 // Set i has no bit from n on, and none at all where level i is not used.
 fn set_clear(s: &[u16; 16], n: usize, i: usize) -> bool
     requires { (n ≤ 16) × (i < 16) }
-    ensures { result ≡ setClear (withSets n s.now) i }
+    ensures { result ≡ set_clear (with_sets n s.now) i }
 {
     let x = wider(s[i]);
     if n <= i {
@@ -25,7 +25,7 @@ fn set_clear(s: &[u16; 16], n: usize, i: usize) -> bool
 
 fn sets_clear(s: &[u16; 16], n: usize) -> bool
     requires { n ≤ 16 }
-    ensures { result ≡ all_below (setClear (withSets n s.now)) 16 }
+    ensures { result ≡ all_below (set_clear (with_sets n s.now)) 16 }
 {
     let mut i: usize = 0;
     while i < 16 {
@@ -39,7 +39,7 @@ fn sets_clear(s: &[u16; 16], n: usize) -> bool
 
 // 7: the record keeps its layout.
 fn laid_out(s: &[u16; 16], n: usize) -> bool
-    ensures { result ≡ layout (withSets n s.now) }
+    ensures { result ≡ layout (with_sets n s.now) }
 {
     if n < 1 {
         return false;
@@ -52,7 +52,7 @@ fn laid_out(s: &[u16; 16], n: usize) -> bool
 
 // The number that refuses a lattice record, or 0.
 pub fn refusal_of(l: Lattice) -> u8
-    ensures { result ≡ latticeRefusal l }
+    ensures { result ≡ lattice_refusal l }
 {
     let n = l.n as usize;
     let s = l.sets;

@@ -3,7 +3,7 @@ use Rattle.std.specs.Prelude.{◌≡◌, ◌⊎◌, ◌↔◌, ℕ, ◌<◌, con
 use Rattle.base.specs.Collect.{collect}
 use Rattle.base.specs.Rising.{In, Rising}
 use Rattle.plant.specs.declared.Plant.{Plant}
-use Rattle.plant.specs.Right.{allRights}
+use Rattle.plant.specs.Right.{all_rights}
 use Rattle.rules.specs.Rules.{View, holds}
 
 -- One right that a skid holds on a tank: the article's current access, an element of B.
@@ -24,23 +24,23 @@ pub record Lists (H : ℕ → ℕ → ℕ → Type 0) (l : List HeldRight) : Typ
 -- The list, over what is known of each skid: the record's views or the history's. Going through the groups would give another order where a
 -- higher group's tank has the lower number.
 module _ (P : Plant) (vs : ℕ → View) where
-  abbrev pub rightAt : ℕ → ℕ → ℕ → List HeldRight
-  rightAt s o r = cond (holds P (vs s) o r) (record { skid = s; tank = o; right = r } ∷ []) []
+  abbrev pub right_at : ℕ → ℕ → ℕ → List HeldRight
+  right_at s o r = cond (holds P (vs s) o r) (record { skid = s; tank = o; right = r } ∷ []) []
 
-  abbrev pub rightsOn : ℕ → ℕ → List HeldRight
-  rightsOn s o = collect (λ i. rightAt s o (get_or allRights i 0)) (length allRights)
+  abbrev pub rights_on : ℕ → ℕ → List HeldRight
+  rights_on s o = collect (λ i. right_at s o (get_or all_rights i 0)) (length all_rights)
 
-  abbrev pub rightsBy : ℕ → List HeldRight
-  rightsBy s = collect (rightsOn s) P.tanks
+  abbrev pub rights_by : ℕ → List HeldRight
+  rights_by s = collect (rights_on s) P.tanks
 
-  unfoldable pub rightsHeld : List HeldRight
-  rightsHeld = collect rightsBy P.skids
+  unfoldable pub rights_held : List HeldRight
+  rights_held = collect rights_by P.skids
 
 -- Three bytes for each right: skid, tank, right.
-unfoldable pub rightBytes : List HeldRight → List ℕ
-rightBytes [] = []
-rightBytes (h ∷ l) = h.skid ∷ h.tank ∷ h.right ∷ rightBytes l
+unfoldable pub right_bytes : List HeldRight → List ℕ
+right_bytes [] = []
+right_bytes (h ∷ l) = h.skid ∷ h.tank ∷ h.right ∷ right_bytes l
 
 -- How many there are, and then each.
 abbrev pub listing : List HeldRight → List ℕ
-listing l = length l ∷ rightBytes l
+listing l = length l ∷ right_bytes l

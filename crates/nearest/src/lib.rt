@@ -2,11 +2,11 @@
 #![tactic(auto)]
 
 ghost use Rattle.std.specs.Prelude.{◌≡◌, true, not, ◌&&◌, ℕ, ◌<◌, ◌≤◌, get_or};
-ghost use Rattle.base.specs.Below.{all_below, anyBelow};
+ghost use Rattle.base.specs.Below.{all_below, any_below};
 ghost use Rattle.base.specs.Bits.{bit};
-ghost use Rattle.plant.specs.Checks.{entryBelow};
-ghost use Rattle.choice.specs.Search.{underInLattice};
-ghost use Rattle.choice.specs.Table.{standsIn, reachesIn, nearerIn};
+ghost use Rattle.plant.specs.Checks.{entry_below};
+ghost use Rattle.choice.specs.Search.{under_in_lattice};
+ghost use Rattle.choice.specs.Table.{stands_in, reaches_in, nearer_in};
 
 use sets::{with_one, with_set, without_one};
 
@@ -20,9 +20,9 @@ fn without_set(x: u16, y: u16) -> u16
 // The levels at which each group has a tank, as sets.
 pub fn places_of<'a>(group: &'a [u8; 64], level: &'a [u8; 64], tanks: usize) -> [u16; 8]
     requires tanks_in { tanks ≤ 64 }
-    requires groups_in { all_below (entryBelow group.now 8) tanks ≡ true }
-    requires levels_in { all_below (entryBelow level.now 16) tanks ≡ true }
-    ensures { (g y : ℕ) → g < 8 → bit (get_or result g 0) y ≡ anyBelow (standsIn group.now level.now g y) tanks }
+    requires groups_in { all_below (entry_below group.now 8) tanks ≡ true }
+    requires levels_in { all_below (entry_below level.now 16) tanks ≡ true }
+    ensures { (g y : ℕ) → g < 8 → bit (get_or result g 0) y ≡ any_below (stands_in group.now level.now g y) tanks }
 {
     let mut places = [0u16; 8];
     let mut o: usize = 0;
@@ -38,7 +38,7 @@ pub fn places_of<'a>(group: &'a [u8; 64], level: &'a [u8; 64], tanks: usize) -> 
 // length.
 fn above_in(sets: &[u16; 128], l: usize, these: u16) -> u16
     requires { l < 8 }
-    ensures { (v : ℕ) → bit result v ≡ anyBelow (reachesIn sets.now l these v) 16 }
+    ensures { (v : ℕ) → bit result v ≡ any_below (reaches_in sets.now l these v) 16 }
 {
     let mut all: u16 = 0;
     let mut y: usize = 0;
@@ -53,7 +53,7 @@ fn above_in(sets: &[u16; 128], l: usize, these: u16) -> u16
 // other level of the group that is above x.
 pub fn nearest_for(sets: &[u16; 128], l: usize, places: u16, x: usize) -> u16
     requires { (l < 8) × (x < 16) }
-    ensures { (v : ℕ) → bit result v ≡ underInLattice sets.now l x v && not (anyBelow (nearerIn sets.now l places x v) 16) }
+    ensures { (v : ℕ) → bit result v ≡ under_in_lattice sets.now l x v && not (any_below (nearer_in sets.now l places x v) 16) }
 {
     let own = sets[l * 16 + x];
     let nearer = without_one(places & own, x);

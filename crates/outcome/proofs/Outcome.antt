@@ -6,73 +6,73 @@ use mathlib.Core.List.{List, [], ◌++◌}
 use native.Mathlib.Omega.{arith}
 use lib.ListN.{length, take, drop, length-take, length-drop}
 use Rattle.base.specs.Overlay.{overlay}
-use Rattle.base.proofs.Overlaid.{overlay-part, overlay-length}
-use Rattle.base.proofs.Collected.{overlay-append}
+use Rattle.base.proofs.Overlaid.{overlay_part, overlay_length}
+use Rattle.base.proofs.Collected.{overlay_append}
 use Rattle.plant.specs.declared.Plant.{Plant}
-use Rattle.plant.specs.Checks.{plantRefusal, Sound}
-use Rattle.plant.proofs.Sound.{sound-law}
+use Rattle.plant.specs.Checks.{plant_refusal, Sound}
+use Rattle.plant.proofs.Sound.{sound_law}
 use Rattle.rules.specs.declared.Monitor.{Monitor}
 use Rattle.rules.specs.Rules.{Call, View}
-use Rattle.rules.specs.Record.{fresh, view_of, final, recordOf}
+use Rattle.rules.specs.Record.{fresh, view_of, final, record_of}
 use Rattle.rules.specs.Run.{runs, ends}
-use Rattle.rules.specs.History.{historyView, historyAnswers, history}
-use Rattle.rules.proofs.Agree.{fresh-agree, list-agree, list-replies}
-use Rattle.calls.specs.Lent.{plantCounts, GateReads}
+use Rattle.rules.specs.History.{history_view, history_answers, history}
+use Rattle.rules.proofs.Agree.{fresh_agree, list_agree, list_replies}
+use Rattle.calls.specs.Lent.{plant_counts, GateReads}
 use Rattle.calls.specs.RequestBytes.{calls_of}
-use Rattle.calls.proofs.Served.{once, still-intact, runs-length, calls-length}
-use Rattle.listing.specs.Held.{HeldRight, rightsHeld, listing}
-use Rattle.listing.specs.Parts.{heldRights}
+use Rattle.calls.proofs.Served.{once, still_intact, runs_length, calls_length}
+use Rattle.listing.specs.Held.{HeldRight, rights_held, listing}
+use Rattle.listing.specs.Parts.{held_rights}
 use Rattle.outcome.specs.Batch.{outcome}
 
-module _ (P : Plant) (q : plantRefusal true true P ≡ 0) (cs : List Call) where
+module _ (P : Plant) (q : plant_refusal true true P ≡ 0) (cs : List Call) where
   sound : Sound P
-  sound = (sound-law P).0 q
+  sound = (sound_law P).0 q
 
-  pub same-answers : runs (fresh P) cs ≡ historyAnswers P [] cs
-  same-answers = sym (once P q cs).same-answers ∙ list-replies P sound cs (fresh P) [] (fresh-agree P sound)
+  pub same_answers : runs (fresh P) cs ≡ history_answers P [] cs
+  same_answers = sym (once P q cs).same_answers ∙ list_replies P sound cs (fresh P) [] (fresh_agree P sound)
 
-  same-views : (s : ℕ) → view_of P (final (fresh P) cs) s ≡ historyView P (history P [] cs) s
-  same-views s = (list-agree P sound cs (fresh P) [] (fresh-agree P sound)).views s
+  same_views : (s : ℕ) → view_of P (final (fresh P) cs) s ≡ history_view P (history P [] cs) s
+  same_views s = (list_agree P sound cs (fresh P) [] (fresh_agree P sound)).views s
 
-  pub same-rights : rightsHeld P (view_of P (final (fresh P) cs)) ≡ rightsHeld P (historyView P (history P [] cs))
-  same-rights = ap (rightsHeld P) (λ i s. same-views s i)
+  pub same_rights : rights_held P (view_of P (final (fresh P) cs)) ≡ rights_held P (history_view P (history P [] cs))
+  same_rights = ap (rights_held P) (λ i s. same_views s i)
 
-  outcome-is : (m : Monitor) → m ≡ ends (fresh P) cs → runs (fresh P) cs ++ listing (rightsHeld P (view_of P m)) ≡ outcome P cs
+  outcome_is : (m : Monitor) → m ≡ ends (fresh P) cs → runs (fresh P) cs ++ listing (rights_held P (view_of P m)) ≡ outcome P cs
   unfolding outcome
-  outcome-is m e =
-      ap₂ (λ (l : List ℕ) (vs : ℕ → View). l ++ listing (rightsHeld P vs)) same-answers (ap (view_of P) (e ∙ sym (once P q cs).same-record))
-      ∙ ap (λ (l : List HeldRight). historyAnswers P [] cs ++ listing l) same-rights
+  outcome_is m e =
+      ap₂ (λ (l : List ℕ) (vs : ℕ → View). l ++ listing (rights_held P vs)) same_answers (ap (view_of P) (e ∙ sym (once P q cs).same_record))
+      ∙ ap (λ (l : List HeldRight). history_answers P [] cs ++ listing l) same_rights
 
 -- n requests were served, and these are the changing parts after them
-module _ (P : Plant) (q : plantRefusal true true P ≡ 0) (bytes : List ℕ) (n : ℕ) {levels running chosen : List ℕ}
-    (e : recordOf P levels running chosen ≡ ends (fresh P) (calls_of bytes n)) where
+module _ (P : Plant) (q : plant_refusal true true P ≡ 0) (bytes : List ℕ) (n : ℕ) {levels running chosen : List ℕ}
+    (e : record_of P levels running chosen ≡ ends (fresh P) (calls_of bytes n)) where
   abbrev cs : List Call
   cs = calls_of bytes n
 
   abbrev m : Monitor
-  m = recordOf P levels running chosen
+  m = record_of P levels running chosen
 
   -- what the writer of the list reads
-  pub parts-read : GateReads (plantCounts P) P.tank_group P.task_rights running chosen m
-  parts-read = record { passed = record { passes = still-intact P q bytes n e; counts = refl }; group-is = refl; rights-are = refl; running-is = refl; chosen_is = refl }
+  pub parts_read : GateReads (plant_counts P) P.tank_group P.task_rights running chosen m
+  parts_read = record { passed = record { passes = still_intact P q bytes n e; counts = refl }; group_is = refl; rights_are = refl; running_is = refl; chosen_is = refl }
 
   answered : length (runs (fresh P) cs) ≡ n
-  answered = runs-length cs (fresh P) ∙ calls-length bytes n
+  answered = runs_length cs (fresh P) ∙ calls_length bytes n
 
   -- out₁ is the buffer with the answers in it
   module _ (out : List ℕ) {out₁ : List ℕ} (r : n + 577 ≤ length out) (h : out₁ ≡ overlay out 0 (runs (fresh P) cs)) where
     as_long : length out₁ ≡ length out
-    as_long = ap length h ∙ overlay-length out 0 (runs (fresh P) cs) (omega (arith, answered))
+    as_long = ap length h ∙ overlay_length out 0 (runs (fresh P) cs) (omega (arith, answered))
 
-    pub room-left : 577 ≤ length (take (length out₁ - n) (drop n out₁))
-    room-left = omega (arith, as_long, length-take (length out₁ - n) (drop n out₁), length-drop n out₁)
+    pub room_left : 577 ≤ length (take (length out₁ - n) (drop n out₁))
+    room_left = omega (arith, as_long, length-take (length out₁ - n) (drop n out₁), length-drop n out₁)
 
     -- ys is the rest of the buffer with the list of rights in it
-    pub outcome-out : {ys : List ℕ} → ys ≡ overlay (take (length out₁ - n) (drop n out₁)) 0 (listing (heldRights m)) → take n out₁ ++ (ys ++ drop (length out₁ - n) (drop n out₁)) ≡ overlay out 0 (outcome P cs)
-    outcome-out {ys} w =
-        let ws : List ℕ = listing (heldRights m) in
+    pub outcome_out : {ys : List ℕ} → ys ≡ overlay (take (length out₁ - n) (drop n out₁)) 0 (listing (held_rights m)) → take n out₁ ++ (ys ++ drop (length out₁ - n) (drop n out₁)) ≡ overlay out 0 (outcome P cs)
+    outcome_out {ys} w =
+        let ws : List ℕ = listing (held_rights m) in
         let answers : List ℕ = runs (fresh P) cs in
         let at : 0 + length answers ≡ n = omega (arith, answered) in
-        overlay-part out₁ n ws ys (omega (arith, as_long)) w
-        ∙ ap₂ (λ (l : List ℕ) (k : ℕ). overlay l k ws) h (sym at) ∙ overlay-append out 0 answers ws (omega (arith, answered))
-        ∙ ap (overlay out 0) (outcome-is P q cs m e)
+        overlay_part out₁ n ws ys (omega (arith, as_long)) w
+        ∙ ap₂ (λ (l : List ℕ) (k : ℕ). overlay l k ws) h (sym at) ∙ overlay_append out 0 answers ws (omega (arith, answered))
+        ∙ ap (overlay out 0) (outcome_is P q cs m e)

@@ -2,8 +2,8 @@
 #![tactic(auto)]
 
 ghost use Rattle.std.specs.Prelude.{◌≡◌, length};
-ghost use Rattle.layout.specs.Header.{sectionPlace};
-ghost use Rattle.outcome.specs.Batch.{batchRefusal, batchOut};
+ghost use Rattle.layout.specs.Header.{section_place};
+ghost use Rattle.outcome.specs.Batch.{batch_refusal, batch_out};
 
 use batch_call::call_batch;
 use layout::Place;
@@ -13,8 +13,8 @@ use parts::section_place;
 // n answers, the count of rights held, and skid, tank, right of each. After a refusal it is as it was.
 #[unsafe(no_mangle)]
 pub extern "C" fn permits_batch(plant: &[u8], requests: &[u8], out: &mut [u8]) -> u8
-    ensures { (result ≡ batchRefusal plant.now requests.now (length out.old))
-        × (out.new ≡ batchOut plant.now requests.now out.old) }
+    ensures { (result ≡ batch_refusal plant.now requests.now (length out.old))
+        × (out.new ≡ batch_out plant.now requests.now out.old) }
 {
     call_batch(plant, requests, out)
 }
@@ -22,7 +22,7 @@ pub extern "C" fn permits_batch(plant: &[u8], requests: &[u8], out: &mut [u8]) -
 // Where 01's section stands in the caller's bytes. A function that C calls cannot hand back a part of them, as layout's `section` does.
 #[unsafe(no_mangle)]
 pub extern "C" fn permits_section(file: &[u8], kind: usize) -> Place
-    ensures { result ≡ sectionPlace file.now kind }
+    ensures { result ≡ section_place file.now kind }
 {
     section_place(file, kind)
 }

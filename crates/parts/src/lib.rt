@@ -3,8 +3,8 @@
 
 ghost use Rattle.std.specs.Prelude.{◌≡◌, ◌+◌, ◌<◌, ◌≤◌, length};
 ghost use Rattle.base.specs.Below.{all_below};
-ghost use Rattle.layout.specs.Layout.{sections, headerBytes, end, part, place};
-ghost use Rattle.layout.specs.Header.{inside, allInside, apart, allApart, headerRefusal, noPlace, sectionPlace, sectionOf};
+ghost use Rattle.layout.specs.Layout.{sections, header_bytes, end, part, place};
+ghost use Rattle.layout.specs.Header.{inside, all_inside, apart, all_apart, header_refusal, no_place, section_place, section_of};
 
 use header::{
     HEADER_BYTES, SECTIONS, counts_ok, edition_ok, end_of, length_ok, offset_of, zeros_ok,
@@ -14,16 +14,16 @@ use layout::Place;
 // 5: where the sections begin and end.
 #[tactic(auto, unfolding(layout::specs::Header::inside))]
 fn is_inside(file: &[u8], kind: usize) -> bool
-    requires { (headerBytes ≤ length file.now) × (kind < sections) }
+    requires { (header_bytes ≤ length file.now) × (kind < sections) }
     ensures { result ≡ inside file.now kind }
 {
     HEADER_BYTES <= offset_of(file, kind) && end_of(file, kind) <= file.len()
 }
 
-#[tactic(auto, using(base::proofs::Scan::scan), unfolding(layout::specs::Header::allInside))]
+#[tactic(auto, using(base::proofs::Scan::scan), unfolding(layout::specs::Header::all_inside))]
 fn all_inside(file: &[u8]) -> bool
-    requires { headerBytes ≤ length file.now }
-    ensures { result ≡ allInside file.now }
+    requires { header_bytes ≤ length file.now }
+    ensures { result ≡ all_inside file.now }
 {
     for kind in 0..SECTIONS {
         if !is_inside(file, kind) {
@@ -36,7 +36,7 @@ fn all_inside(file: &[u8]) -> bool
 // 6: two sections that share no byte.
 #[tactic(auto, unfolding(layout::specs::Header::apart))]
 fn are_apart(file: &[u8], i: usize, j: usize) -> bool
-    requires { (headerBytes ≤ length file.now) × ((i < sections) × (j < sections)) }
+    requires { (header_bytes ≤ length file.now) × ((i < sections) × (j < sections)) }
     ensures { result ≡ apart file.now i j }
 {
     end_of(file, i) <= offset_of(file, j) || end_of(file, j) <= offset_of(file, i)
@@ -44,7 +44,7 @@ fn are_apart(file: &[u8], i: usize, j: usize) -> bool
 
 #[tactic(auto, using(base::proofs::Scan::scan))]
 fn apart_from(file: &[u8], i: usize) -> bool
-    requires { (headerBytes ≤ length file.now) × (i < sections) }
+    requires { (header_bytes ≤ length file.now) × (i < sections) }
     ensures { result ≡ all_below (apart file.now i) i }
 {
     for j in 0..i {
@@ -55,10 +55,10 @@ fn apart_from(file: &[u8], i: usize) -> bool
     true
 }
 
-#[tactic(auto, using(base::proofs::Scan::scan), unfolding(layout::specs::Header::allApart))]
+#[tactic(auto, using(base::proofs::Scan::scan), unfolding(layout::specs::Header::all_apart))]
 fn all_apart(file: &[u8]) -> bool
-    requires { headerBytes ≤ length file.now }
-    ensures { result ≡ allApart file.now }
+    requires { header_bytes ≤ length file.now }
+    ensures { result ≡ all_apart file.now }
 {
     for i in 0..SECTIONS {
         if !apart_from(file, i) {
@@ -69,9 +69,9 @@ fn all_apart(file: &[u8]) -> bool
 }
 
 // The first of 1 to 6 that fails, or 0.
-#[tactic(auto, using(base::proofs::Chain::checks), unfolding(layout::specs::Header::headerRefusal))]
+#[tactic(auto, using(base::proofs::Chain::checks), unfolding(layout::specs::Header::header_refusal))]
 pub fn header_refusal(file: &[u8]) -> u8
-    ensures { result ≡ headerRefusal file.now }
+    ensures { result ≡ header_refusal file.now }
 {
     if !length_ok(file) {
         return 1;
@@ -96,7 +96,7 @@ pub fn header_refusal(file: &[u8]) -> u8
 
 // The part of the file that a section fills.
 pub fn part_of(file: &[u8], kind: usize) -> &[u8]
-    requires { (headerRefusal file.now ≡ 0) × (kind < sections) }
+    requires { (header_refusal file.now ≡ 0) × (kind < sections) }
     ensures { result.now ≡ part file.now kind }
 {
     let off = offset_of(file, kind);
@@ -105,7 +105,7 @@ pub fn part_of(file: &[u8], kind: usize) -> &[u8]
 }
 
 fn no_place() -> Place
-    ensures { result ≡ noPlace }
+    ensures { result ≡ no_place }
 {
     Place {
         begin: 0,
@@ -115,7 +115,7 @@ fn no_place() -> Place
 
 // Where 01's section stands in the caller's bytes, for any bytes and any kind; an empty part at their start on refusal.
 pub fn section_place(file: &[u8], kind: usize) -> Place
-    ensures { result ≡ sectionPlace file.now kind }
+    ensures { result ≡ section_place file.now kind }
 {
     if header_refusal(file) != 0 {
         return no_place();
@@ -133,7 +133,7 @@ pub fn section_place(file: &[u8], kind: usize) -> Place
 
 // 01's section call: that part itself.
 pub fn section(file: &[u8], kind: usize) -> &[u8]
-    ensures { result.now ≡ sectionOf file.now kind }
+    ensures { result.now ≡ section_of file.now kind }
 {
     let place = section_place(file, kind);
     let begin = place.begin;

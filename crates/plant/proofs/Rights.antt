@@ -10,54 +10,54 @@ use lib.ListN.{get_or}
 use borrow.Author.Tests.{le-leb, lt-leb, leb-true, eqb-false, not-true}
 use Rattle.base.specs.Bits.{bit}
 use Rattle.base.proofs.Logic.{split}
-use Rattle.base.proofs.Bits.{no_bits, and-power}
+use Rattle.base.proofs.Bits.{no_bits, and_power}
 use Rattle.plant.specs.declared.Plant.{Plant}
-use Rattle.plant.specs.Plant.{rightsOf, namesRight, needs}
+use Rattle.plant.specs.Plant.{rights_of, names_right, needs}
 use Rattle.plant.specs.Checks.{Numbers}
-use Rattle.plant.specs.Right.{allRights, hasRight, RightsNumbered}
+use Rattle.plant.specs.Right.{all_rights, has_right, RightsNumbered}
 
-pub has-bit : (x r : ℕ) → r < 3 → hasRight x r ≡ bit x r
-has-bit x r l = rw (le-leb r 2 (omega arith)) (and-power x r)
+pub has_bit : (x r : ℕ) → r < 3 → has_right x r ≡ bit x r
+has_bit x r l = rw (le-leb r 2 (omega arith)) (and_power x r)
 
-pub has-none : (x r : ℕ) → 3 ≤ r → hasRight x r ≡ false
-has-none x r l = rw (lt-leb r 2 (omega arith)) (ap (λ (y : ℕ). not (eqb y 0)) (and_zero_r x))
+pub has_none : (x r : ℕ) → 3 ≤ r → has_right x r ≡ false
+has_none x r l = rw (lt-leb r 2 (omega arith)) (ap (λ (y : ℕ). not (eqb y 0)) (and_zero_r x))
 
 -- a set of rights that is not empty has one of them
-no-bit : (x : ℕ) → bit x 0 ≡ false → bit x 1 ≡ false → bit x 2 ≡ false → ((i : ℕ) → bit x i ≡ true → i < 3) → (i : ℕ) → bit x i ≡ false
-no-bit x a b c k zero = a
-no-bit x a b c k (suc zero) = b
-no-bit x a b c k (suc (suc zero)) = c
-no-bit x a b c k (suc (suc (suc i))) = split (bit x (suc (suc (suc i)))) (λ e. absurd (omega (arith, k (suc (suc (suc i))) e))) (λ e. e)
+no_bit : (x : ℕ) → bit x 0 ≡ false → bit x 1 ≡ false → bit x 2 ≡ false → ((i : ℕ) → bit x i ≡ true → i < 3) → (i : ℕ) → bit x i ≡ false
+no_bit x a b c k zero = a
+no_bit x a b c k (suc zero) = b
+no_bit x a b c k (suc (suc zero)) = c
+no_bit x a b c k (suc (suc (suc i))) = split (bit x (suc (suc (suc i)))) (λ e. absurd (omega (arith, k (suc (suc (suc i))) e))) (λ e. e)
 
-pub needs-names : (p : Plant) → Numbers p → (t g : ℕ) → t < p.tasks → g < 8 → needs p t g ≡ true → (r : ℕ) × (r < 3) × (namesRight p t r g ≡ true)
-needs-names p N t g l m n =
-    let x = rightsOf p t g in
-    split (bit x 0) (λ a. (0, omega arith, has-bit x 0 (omega arith) ∙ a))
-    (λ a. split (bit x 1) (λ b. (1, omega arith, has-bit x 1 (omega arith) ∙ b))
-    (λ b. split (bit x 2) (λ c. (2, omega arith, has-bit x 2 (omega arith) ∙ c))
-    (λ c. absurd (eqb-false x 0 (not-true _ n) (no_bits x (no-bit x a b c (λ i e. N.rights-known t g i l m e)))))))
+pub needs_names : (p : Plant) → Numbers p → (t g : ℕ) → t < p.tasks → g < 8 → needs p t g ≡ true → (r : ℕ) × (r < 3) × (names_right p t r g ≡ true)
+needs_names p N t g l m n =
+    let x = rights_of p t g in
+    split (bit x 0) (λ a. (0, omega arith, has_bit x 0 (omega arith) ∙ a))
+    (λ a. split (bit x 1) (λ b. (1, omega arith, has_bit x 1 (omega arith) ∙ b))
+    (λ b. split (bit x 2) (λ c. (2, omega arith, has_bit x 2 (omega arith) ∙ c))
+    (λ c. absurd (eqb-false x 0 (not-true _ n) (no_bits x (no_bit x a b c (λ i e. N.rights_known t g i l m e)))))))
 
 -- the rights in their order are their numbers
-pub number_at : (i : ℕ) → i < 3 → get_or allRights i 0 ≡ i
+pub number_at : (i : ℕ) → i < 3 → get_or all_rights i 0 ≡ i
 number_at zero l = refl
 number_at (suc zero) l = refl
 number_at (suc (suc zero)) l = refl
 number_at (suc (suc (suc i))) l = absurd (omega arith)
 
-pub number-rises : (i j : ℕ) → i < j → j < 3 → get_or allRights i 0 < get_or allRights j 0
-number-rises i j l m = omega (arith, number_at i (omega arith), number_at j m)
+pub number_rises : (i j : ℕ) → i < j → j < 3 → get_or all_rights i 0 < get_or all_rights j 0
+number_rises i j l m = omega (arith, number_at i (omega arith), number_at j m)
 
-pub rights-numbered : RightsNumbered
-rights-numbered = record {
-  draw-is = refl;
-  return-is = refl;
-  sample-is = refl;
-  no-others = λ r. (λ e. one_of r (leb-true r 2 e), ⊎_elim (λ e. rw e) (⊎_elim (λ e. rw e) (λ e. rw e)));
-  draw-worth = refl;
-  return-worth = refl;
-  sample-worth = refl;
-  named = has-bit;
-  none_named = has-none;
+pub rights_numbered : RightsNumbered
+rights_numbered = record {
+  draw_is = refl;
+  return_is = refl;
+  sample_is = refl;
+  no_others = λ r. (λ e. one_of r (leb-true r 2 e), ⊎_elim (λ e. rw e) (⊎_elim (λ e. rw e) (λ e. rw e)));
+  draw_worth = refl;
+  return_worth = refl;
+  sample_worth = refl;
+  named = has_bit;
+  none_named = has_none;
 }
   where
     one_of : (r : ℕ) → r ≤ 2 → (r ≡ 0) ⊎ ((r ≡ 1) ⊎ (r ≡ 2))

@@ -2,12 +2,12 @@
 use mathlib.Core.Path.{refl}
 use Rattle.inputs.specs.Case.{EachRight, AllRight}
 use Rattle.call_cases.proofs.Calls.{computed}
-use Rattle.plant_cases.specs.PlantCases.{wideCalls, otherCountCases, casesOfPlants}
+use Rattle.plant_cases.specs.PlantCases.{wide_calls, other_count_cases, cases_of_plants}
 
-otherCount-right : EachRight otherCountCases
-unfolding computed wideCalls otherCountCases
-otherCount-right = (refl, (refl, (refl, (refl, tt))))
+other_count_right : EachRight other_count_cases
+unfolding computed wide_calls other_count_cases
+other_count_right = (refl, (refl, (refl, (refl, tt))))
 
-pub plants-right : AllRight casesOfPlants
-unfolding casesOfPlants
-plants-right = (otherCount-right, tt)
+pub plants_right : AllRight cases_of_plants
+unfolding cases_of_plants
+plants_right = (other_count_right, tt)

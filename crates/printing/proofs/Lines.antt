@@ -4,7 +4,7 @@ use mathlib.Core.Path.{◌≡◌, sym, subst}
 use mathlib.Core.List.{List, ◌∷◌, ◌++◌, append_assoc}
 use lib.ListN.{length}
 use Rattle.base.specs.Overlay.{Wrote}
-use Rattle.base.proofs.Written.{wrote_as, front-room, rest-room, rest-wrote}
+use Rattle.base.proofs.Written.{wrote_as, front_room, rest_room, rest_wrote}
 use Rattle.printing.specs.Text.{codes, line}
 
 -- a word and the space behind it
@@ -18,11 +18,11 @@ module _ (w v : List ℕ) (ws : List (List ℕ)) (out : List ℕ) (at : ℕ) (h 
   room : at + length (spaced w ++ line (v ∷ ws)) ≤ length out
   room = subst (λ (l : List ℕ). at + length l ≤ length out) parts h
 
-  pub first-room : at + length (spaced w) ≤ length out
-  first-room = front-room (spaced w) (line (v ∷ ws)) out at room
+  pub first_room : at + length (spaced w) ≤ length out
+  first_room = front_room (spaced w) (line (v ∷ ws)) out at room
 
-  pub others-room : {out' : List ℕ} {at' : ℕ} → Wrote (spaced w) out at out' at' → at' + length (line (v ∷ ws)) ≤ length out'
-  others-room a = rest-room (spaced w) (line (v ∷ ws)) out at room a
+  pub others_room : {out' : List ℕ} {at' : ℕ} → Wrote (spaced w) out at out' at' → at' + length (line (v ∷ ws)) ≤ length out'
+  others_room a = rest_room (spaced w) (line (v ∷ ws)) out at room a
 
-  pub others-wrote : {out' out'' : List ℕ} {at' at'' : ℕ} → Wrote (spaced w) out at out' at' → Wrote (line (v ∷ ws)) out' at' out'' at'' → Wrote (line (w ∷ v ∷ ws)) out at out'' at''
-  others-wrote a b = wrote_as (sym parts) (rest-wrote (spaced w) (line (v ∷ ws)) out at room a b)
+  pub others_wrote : {out' out'' : List ℕ} {at' at'' : ℕ} → Wrote (spaced w) out at out' at' → Wrote (line (v ∷ ws)) out' at' out'' at'' → Wrote (line (w ∷ v ∷ ws)) out at out'' at''
+  others_wrote a b = wrote_as (sym parts) (rest_wrote (spaced w) (line (v ∷ ws)) out at room a b)

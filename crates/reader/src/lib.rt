@@ -3,9 +3,9 @@
 
 ghost use Rattle.std.specs.Prelude.{◌≡◌, ◌<◌};
 ghost use Rattle.layout.specs.Layout.{sections, width};
-ghost use Rattle.layout.specs.Header.{headerRefusal};
-ghost use Rattle.plant.specs.Plant.{noPlant};
-ghost use Rattle.opening.specs.Reading.{zeroByte, zeros, otherZeros, refusedWith, reading_of};
+ghost use Rattle.layout.specs.Header.{header_refusal};
+ghost use Rattle.plant.specs.Plant.{no_plant};
+ghost use Rattle.opening.specs.Reading.{zero_byte, zeros, other_zeros, refused_with, reading_of};
 
 use cells::zeros_at;
 use checks::refusal;
@@ -19,7 +19,7 @@ use records::plant_from;
 const ZERO_BYTE: usize = 1;
 
 fn no_plant() -> Plant
-    ensures { result ≡ noPlant }
+    ensures { result ≡ no_plant }
 {
     Plant {
         lattices: 0,
@@ -42,19 +42,19 @@ fn no_plant() -> Plant
 
 // Whether the zero byte of each record of a section is zero.
 fn zeros_in(file: &[u8], kind: usize) -> bool
-    requires file_ok { headerRefusal file.now ≡ 0 }
+    requires file_ok { header_refusal file.now ≡ 0 }
     requires kind_in { kind < sections }
-    requires zero_byte_in { zeroByte < width kind }
+    requires zero_byte_in { zero_byte < width kind }
     ensures { result ≡ zeros file.now kind }
 {
     let n = count_of(file, kind);
     zeros_at(part_of(file, kind), width_of(kind), ZERO_BYTE, n)
 }
 
-#[tactic(auto, unfolding(opening::specs::Reading::otherZeros))]
+#[tactic(auto, unfolding(opening::specs::Reading::other_zeros))]
 fn other_zeros(file: &[u8]) -> bool
-    requires { headerRefusal file.now ≡ 0 }
-    ensures { result ≡ otherZeros file.now }
+    requires { header_refusal file.now ≡ 0 }
+    ensures { result ≡ other_zeros file.now }
 {
     if !zeros_in(file, REQUIREMENTS) {
         return false;
@@ -66,7 +66,7 @@ fn other_zeros(file: &[u8]) -> bool
 }
 
 fn refused(number: u8) -> Reading
-    ensures { result ≡ refusedWith number }
+    ensures { result ≡ refused_with number }
 {
     Reading {
         answer: number,

@@ -2,22 +2,22 @@
 use Rattle.std.specs.Prelude.{ℕ, ◌-◌, ◌*◌, List, ◌∷◌, ◌++◌, length, replicate}
 use Rattle.std.proofs.Math.ListN as ListN
 use Rattle.plant.specs.declared.Plant.{Plant}
-use Rattle.opening.specs.Reading.{plantOf}
+use Rattle.opening.specs.Reading.{plant_of}
 use Rattle.rules.specs.declared.Monitor.{Monitor}
-use Rattle.rules.specs.Record.{recordOf}
+use Rattle.rules.specs.Record.{record_of}
 use Rattle.inputs.specs.Plants.{session}
 
 -- the session's fresh record with other changing parts, each given by a place and a number
 unfoldable pub record20 : ℕ → ℕ → ℕ → ℕ → ℕ → ℕ → Monitor
-record20 level v skid task at tank = recordOf (plantOf session) (ListN.set (replicate 1024 255) level v) (ListN.set (replicate 8 255) skid task) (ListN.set (ListN.set (replicate 64 255) 1 2) at tank)
+record20 level v skid task at tank = record_of (plant_of session) (ListN.set (replicate 1024 255) level v) (ListN.set (replicate 8 255) skid task) (ListN.set (ListN.set (replicate 64 255) 1 2) at tank)
 
 -- a record over the plant of a file, with a level, a skid's running task and a chosen tank, each given by a place and a number
 unfoldable pub parts : List ℕ → ℕ → ℕ → ℕ → ℕ → ℕ → ℕ → Monitor
-parts file level v skid task at tank = recordOf (plantOf file) (ListN.set (replicate 1024 255) level v) (ListN.set (replicate 8 255) skid task) (ListN.set (replicate 64 255) at tank)
+parts file level v skid task at tank = record_of (plant_of file) (ListN.set (replicate 1024 255) level v) (ListN.set (replicate 8 255) skid task) (ListN.set (replicate 64 255) at tank)
 
 -- a record over the plant of a file: the first levels, and of skid 1 the running task and the tanks chosen from groups 0 and 1
 unfoldable pub skid1 : List ℕ → List ℕ → ℕ → ℕ → ℕ → Monitor
-skid1 file levels task tank0 tank1 = recordOf (plantOf file) (levels ++ replicate (1024 - length levels) 255) (255 ∷ task ∷ replicate 6 255) (replicate 8 255 ++ (tank0 ∷ tank1 ∷ replicate 54 255))
+skid1 file levels task tank0 tank1 = record_of (plant_of file) (levels ++ replicate (1024 - length levels) 255) (255 ∷ task ∷ replicate 6 255) (replicate 8 255 ++ (tank0 ∷ tank1 ∷ replicate 54 255))
 
 -- the session's plant with entries of every kind past the counts, which are free; s in a lattice's set from n on, and r in a task's rights on a
 -- group past the count, which are not
@@ -29,35 +29,35 @@ beyond s r = record {
   tanks = 4;
   tasks = 2;
   skids = 2;
-  lattice_sizes = ListN.set (plantOf session).lattice_sizes 2 99;
-  lattice_sets = ListN.set (ListN.set (plantOf session).lattice_sets 32 9) 3 s;
-  requirement_lattice = ListN.set (plantOf session).requirement_lattice 2 9;
-  group_requirement = ListN.set (plantOf session).group_requirement 2 9;
-  tank_group = ListN.set (plantOf session).tank_group 4 9;
-  tank_level = ListN.set (plantOf session).tank_level 4 99;
-  task_requirements = ListN.set (plantOf session).task_requirements 2 255;
-  task_rights = ListN.set (ListN.set (ListN.set (plantOf session).task_rights 16 255) 24 1) 2 r;
-  skid_tasks = ListN.set (plantOf session).skid_tasks 2 65535;
+  lattice_sizes = ListN.set (plant_of session).lattice_sizes 2 99;
+  lattice_sets = ListN.set (ListN.set (plant_of session).lattice_sets 32 9) 3 s;
+  requirement_lattice = ListN.set (plant_of session).requirement_lattice 2 9;
+  group_requirement = ListN.set (plant_of session).group_requirement 2 9;
+  tank_group = ListN.set (plant_of session).tank_group 4 9;
+  tank_level = ListN.set (plant_of session).tank_level 4 99;
+  task_requirements = ListN.set (plant_of session).task_requirements 2 255;
+  task_rights = ListN.set (ListN.set (ListN.set (plant_of session).task_rights 16 255) 24 1) 2 r;
+  skid_tasks = ListN.set (plant_of session).skid_tasks 2 65535;
 }
 
 -- the plant of a file with an entry of each kind right past its count, all of which are free
-unfoldable pub freePast : List ℕ → Plant
-freePast file = record {
-  lattices = (plantOf file).lattices;
-  requirements = (plantOf file).requirements;
-  groups = (plantOf file).groups;
-  tanks = (plantOf file).tanks;
-  tasks = (plantOf file).tasks;
-  skids = (plantOf file).skids;
-  lattice_sizes = ListN.set (plantOf file).lattice_sizes (plantOf file).lattices 99;
-  lattice_sets = (plantOf file).lattice_sets;
-  requirement_lattice = ListN.set (plantOf file).requirement_lattice (plantOf file).requirements 9;
-  group_requirement = ListN.set (plantOf file).group_requirement (plantOf file).groups 9;
-  tank_group = ListN.set (plantOf file).tank_group (plantOf file).tanks 9;
-  tank_level = ListN.set (plantOf file).tank_level (plantOf file).tanks 99;
-  task_requirements = ListN.set (plantOf file).task_requirements (plantOf file).tasks 255;
-  task_rights = ListN.set (plantOf file).task_rights ((plantOf file).tasks * 8) 255;
-  skid_tasks = ListN.set (plantOf file).skid_tasks (plantOf file).skids 65535;
+unfoldable pub free_past : List ℕ → Plant
+free_past file = record {
+  lattices = (plant_of file).lattices;
+  requirements = (plant_of file).requirements;
+  groups = (plant_of file).groups;
+  tanks = (plant_of file).tanks;
+  tasks = (plant_of file).tasks;
+  skids = (plant_of file).skids;
+  lattice_sizes = ListN.set (plant_of file).lattice_sizes (plant_of file).lattices 99;
+  lattice_sets = (plant_of file).lattice_sets;
+  requirement_lattice = ListN.set (plant_of file).requirement_lattice (plant_of file).requirements 9;
+  group_requirement = ListN.set (plant_of file).group_requirement (plant_of file).groups 9;
+  tank_group = ListN.set (plant_of file).tank_group (plant_of file).tanks 9;
+  tank_level = ListN.set (plant_of file).tank_level (plant_of file).tanks 99;
+  task_requirements = ListN.set (plant_of file).task_requirements (plant_of file).tasks 255;
+  task_rights = ListN.set (plant_of file).task_rights ((plant_of file).tasks * 8) 255;
+  skid_tasks = ListN.set (plant_of file).skid_tasks (plant_of file).skids 65535;
 }
 
 -- the session's plant with other counts of requirements, groups, tasks and skids
@@ -69,13 +69,13 @@ counted requirements groups tasks skids = record {
   tanks = 4;
   tasks = tasks;
   skids = skids;
-  lattice_sizes = (plantOf session).lattice_sizes;
-  lattice_sets = (plantOf session).lattice_sets;
-  requirement_lattice = (plantOf session).requirement_lattice;
-  group_requirement = (plantOf session).group_requirement;
-  tank_group = (plantOf session).tank_group;
-  tank_level = (plantOf session).tank_level;
-  task_requirements = (plantOf session).task_requirements;
-  task_rights = (plantOf session).task_rights;
-  skid_tasks = (plantOf session).skid_tasks;
+  lattice_sizes = (plant_of session).lattice_sizes;
+  lattice_sets = (plant_of session).lattice_sets;
+  requirement_lattice = (plant_of session).requirement_lattice;
+  group_requirement = (plant_of session).group_requirement;
+  tank_group = (plant_of session).tank_group;
+  tank_level = (plant_of session).tank_level;
+  task_requirements = (plant_of session).task_requirements;
+  task_rights = (plant_of session).task_rights;
+  skid_tasks = (plant_of session).skid_tasks;
 }

@@ -3,8 +3,8 @@
 
 ghost use Rattle.std.specs.Prelude.{◌≡◌, ◌<◌};
 ghost use Rattle.layout.specs.Layout.{lattices, tanks, tasks, skids, sections, width, limit, Records};
-ghost use Rattle.layout.specs.Header.{headerRefusal};
-ghost use Rattle.opening.specs.Reading.{oneCell, firstCell, latticeSets, taskRequirements, taskRights, skidTasks, bytesIn, words_in, plantOf};
+ghost use Rattle.layout.specs.Header.{header_refusal};
+ghost use Rattle.opening.specs.Reading.{one_cell, first_cell, lattice_sets_cell, task_requirements_cell, task_rights_cell, skid_tasks_cell, bytes_in, words_in, plant_of};
 
 use cells::{bytes_into, words_into};
 use header::{GROUPS, LATTICES, REQUIREMENTS, SKIDS, TANKS, TASKS, count_byte, width_of};
@@ -35,7 +35,7 @@ const SKID_TASKS: usize = 0;
 fn read_eight(s: &[u8], kind: usize, n: usize) -> [u8; 8]
     requires records { Records s.now kind n }
     requires eight_bytes { (kind < sections) × (limit kind ≡ 8) }
-    ensures { result ≡ bytesIn (firstCell kind) s.now n }
+    ensures { result ≡ bytes_in (first_cell kind) s.now n }
 {
     let mut out = [0u8; 8];
     bytes_into(s, width_of(kind), FIRST, 1, n, &mut out);
@@ -45,7 +45,7 @@ fn read_eight(s: &[u8], kind: usize, n: usize) -> [u8; 8]
 // Each lattice's sets.
 fn read_sets(s: &[u8], n: usize) -> [u16; 128]
     requires { Records s.now lattices n }
-    ensures { result ≡ words_in latticeSets s.now n }
+    ensures { result ≡ words_in lattice_sets_cell s.now n }
 {
     let mut out = [0u16; 128];
     words_into(s, width_of(LATTICES), LATTICE_SETS, SETS, n, &mut out);
@@ -56,7 +56,7 @@ fn read_sets(s: &[u8], n: usize) -> [u16; 128]
 fn read_tanks(s: &[u8], n: usize, from: usize) -> [u8; 64]
     requires records { Records s.now tanks n }
     requires in_record { from < width tanks }
-    ensures { result ≡ bytesIn (oneCell tanks from) s.now n }
+    ensures { result ≡ bytes_in (one_cell tanks from) s.now n }
 {
     let mut out = [0u8; 64];
     bytes_into(s, width_of(TANKS), from, 1, n, &mut out);
@@ -66,7 +66,7 @@ fn read_tanks(s: &[u8], n: usize, from: usize) -> [u8; 64]
 // The requirements that each task names.
 fn read_names(s: &[u8], n: usize) -> [u8; 16]
     requires { Records s.now tasks n }
-    ensures { result ≡ bytesIn taskRequirements s.now n }
+    ensures { result ≡ bytes_in task_requirements_cell s.now n }
 {
     let mut out = [0u8; 16];
     bytes_into(s, width_of(TASKS), TASK_REQUIREMENTS, 1, n, &mut out);
@@ -76,7 +76,7 @@ fn read_names(s: &[u8], n: usize) -> [u8; 16]
 // Each task's rights, on eight groups.
 fn read_rights(s: &[u8], n: usize) -> [u8; 128]
     requires { Records s.now tasks n }
-    ensures { result ≡ bytesIn taskRights s.now n }
+    ensures { result ≡ bytes_in task_rights_cell s.now n }
 {
     let mut out = [0u8; 128];
     bytes_into(s, width_of(TASKS), TASK_RIGHTS, GROUP_BYTES, n, &mut out);
@@ -86,7 +86,7 @@ fn read_rights(s: &[u8], n: usize) -> [u8; 128]
 // The tasks that each skid may run.
 fn read_skids(s: &[u8], n: usize) -> [u16; 8]
     requires { Records s.now skids n }
-    ensures { result ≡ words_in skidTasks s.now n }
+    ensures { result ≡ words_in skid_tasks_cell s.now n }
 {
     let mut out = [0u16; 8];
     words_into(s, width_of(SKIDS), SKID_TASKS, 1, n, &mut out);
@@ -95,8 +95,8 @@ fn read_skids(s: &[u8], n: usize) -> [u16; 8]
 
 // The plant that the records make.
 pub fn plant_from(file: &[u8]) -> Plant
-    requires { headerRefusal file.now ≡ 0 }
-    ensures { result ≡ plantOf file.now }
+    requires { header_refusal file.now ≡ 0 }
+    ensures { result ≡ plant_of file.now }
 {
     let lattices = count_byte(file, LATTICES);
     let requirements = count_byte(file, REQUIREMENTS);

@@ -8,14 +8,14 @@ use Rattle.rules.specs.Record.{view_of, intact, stepped, reply, after}
 use Rattle.requests.specs.Calls.{step_of}
 
 module _ (m : Monitor) (c : Call) {b : Bool} (e : b ≡ intact m.plant m) where
-  pub refused-20 : b ≡ false → record { answer = 20; monitor = m } ≡ step_of m c
+  pub refused_20 : b ≡ false → record { answer = 20; monitor = m } ≡ step_of m c
   unfolding reply after
-  refused-20 n = rw (← e, n)
+  refused_20 n = rw (← e, n)
 
-  pub stepped-on : b ≡ true → {a : ℕ} {m' : Monitor} → a ≡ answer m.plant (view_of m.plant m) c → m' ≡ stepped m.plant m c → record { answer = a; monitor = m' } ≡ step_of m c
+  pub stepped_on : b ≡ true → {a : ℕ} {m' : Monitor} → a ≡ answer m.plant (view_of m.plant m) c → m' ≡ stepped m.plant m c → record { answer = a; monitor = m' } ≡ step_of m c
   unfolding reply after
-  stepped-on n p q = rw (← e, n, p, q)
+  stepped_on n p q = rw (← e, n, p, q)
 
 -- the same on a record that is known to pass
 pub passed_on : (m : Monitor) → intact m.plant m ≡ true → (c : Call) {a : ℕ} {m' : Monitor} → a ≡ answer m.plant (view_of m.plant m) c → m' ≡ stepped m.plant m c → record { answer = a; monitor = m' } ≡ step_of m c
-passed_on m i c p q = stepped-on m c (sym i) refl p q
+passed_on m i c p q = stepped_on m c (sym i) refl p q

@@ -4,8 +4,8 @@
 ghost use Rattle.std.specs.Prelude.{◌≡◌, true, cond, eqb, ◌<◌, ◌≤◌};
 ghost use Rattle.base.specs.Below.{all_below};
 ghost use Rattle.base.specs.Bits.{bit};
-ghost use Rattle.lattice.specs.Sets.{underIn, OrderedSets, Turned, numbersTo, upperRow, marked};
-ghost use Rattle.lattice.specs.Table.{joinRow};
+ghost use Rattle.lattice.specs.Sets.{under_in, OrderedSets, Turned, numbers_to, upper_row, marked};
+ghost use Rattle.lattice.specs.Table.{join_row};
 
 use sets::{byte_where, has, wider};
 
@@ -20,7 +20,7 @@ fn is_all(x: u16, n: usize) -> bool
 // The numbers of the levels as bytes, and 255 from n on.
 pub fn numbers_to(n: usize) -> [u8; 16]
     requires { n ≤ 16 }
-    ensures { result ≡ numbersTo n }
+    ensures { result ≡ numbers_to n }
 {
     let mut numbers = [255u8; 16];
     let mut j: usize = 0;
@@ -34,7 +34,7 @@ pub fn numbers_to(n: usize) -> [u8; 16]
 // Level i where it is above level j, and else the number of j. The loop has a fixed length; a level that is not used is under none.
 fn upper_row<'a, 'b>(s: &'a [u16; 16], numbers: &'b [u8; 16], i: usize) -> [u8; 16]
     requires { i < 16 }
-    ensures { result ≡ upperRow s.now numbers.now i }
+    ensures { result ≡ upper_row s.now numbers.now i }
 {
     let own = i as u8;
     let mut row = [255u8; 16];
@@ -71,7 +71,7 @@ fn mark(row: &mut [u8; 16], s: &[u16; 16], x: u16, k: usize)
 // nothing.
 fn searched_row(s: &[u16; 16], n: usize, i: usize) -> [u8; 16]
     requires { OrderedSets n s.now × (i < n) }
-    ensures { result ≡ joinRow n (underIn s.now) i }
+    ensures { result ≡ join_row n (under_in s.now) i }
 {
     let x = s[i];
     let mut found = [255u8; 16];
@@ -95,8 +95,8 @@ pub fn join_row<'a, 'b>(
     i: usize,
 ) -> [u8; 16]
     requires ordered_sets { OrderedSets n s.now × (i < n) }
-    requires turned { Turned n s.now t.now × (numbers.now ≡ numbersTo n) }
-    ensures { result ≡ joinRow n (underIn s.now) i }
+    requires turned { Turned n s.now t.now × (numbers.now ≡ numbers_to n) }
+    ensures { result ≡ join_row n (under_in s.now) i }
 {
     if is_all(s[i] | t[i], n) {
         return upper_row(s, numbers, i);

@@ -8,8 +8,8 @@ use lib.Dec.{eqb}
 use borrow.Author.Tests.{leb-false, lt-leb, eqb-true, eqb-false, not-false}
 use Rattle.plant.specs.declared.Plant.{Plant}
 use Rattle.choice.specs.Choice.{unset}
-use Rattle.plant.specs.Plant.{levelsOf, mayRun}
-use Rattle.rules.specs.Rules.{Call, set, start, stop, gate, unknown, View, conditions, refusal, blank, lacking, answer, acceptedAnswer, holds}
+use Rattle.plant.specs.Plant.{levels_of, may_run}
+use Rattle.rules.specs.Rules.{Call, set, start, stop, gate, unknown, View, conditions, refusal, blank, lacking, answer, accepted_answer, holds}
 use Rattle.base.proofs.Logic.{split}
 use Rattle.base.specs.Chain.{Clear}
 use Rattle.base.proofs.Chain.{Numbered, clear}
@@ -32,12 +32,12 @@ module _ (P : Plant) (vs : ℕ → View) where
     pub skid : s < P.skids
     pub task : t < P.tasks
     pub req : d < P.requirements
-    pub lev : v < levelsOf P d
+    pub lev : v < levels_of P d
 
   pub record StartOk (s t : ℕ) : Type 0 where
     pub skid : s < P.skids
     pub task : t < P.tasks
-    pub may-run : mayRun P s t ≡ true
+    pub may_run_lem : may_run P s t ≡ true
     pub idle : (vs s).running ≡ unset
     pub filled : blank P t ((vs s).level t) ≡ false
     pub stocked : lacking P t ((vs s).level t) ≡ false
@@ -47,43 +47,43 @@ module _ (P : Plant) (vs : ℕ → View) where
     pub tank : o < P.tanks
     pub right : r < 3
 
-  pub set-ok : (s t d v : ℕ) → refusal P vs (set s t d v) ≡ 0 → SetOk s t d v
+  pub set_ok : (s t d v : ℕ) → refusal P vs (set s t d v) ≡ 0 → SetOk s t d v
   unfolding conditions
-  set-ok s t d v e =
+  set_ok s t d v e =
       let k = accepted (set s t d v) e in
       record { skid = leb-false _ _ k.0; task = leb-false _ _ k.1.0; req = leb-false _ _ k.1.1.0; lev = leb-false _ _ k.1.1.1.0 }
 
-  pub start-ok : (s t : ℕ) → refusal P vs (start s t) ≡ 0 → StartOk s t
+  pub start_ok : (s t : ℕ) → refusal P vs (start s t) ≡ 0 → StartOk s t
   unfolding conditions
-  start-ok s t e =
+  start_ok s t e =
       let k = accepted (start s t) e in
       record {
         skid = leb-false _ _ k.0;
         task = leb-false _ _ k.1.0;
-        may-run = not-false _ k.1.1.0;
+        may_run_lem = not-false _ k.1.1.0;
         idle = eqb-true _ _ (not-false _ k.1.1.1.0);
         filled = k.1.1.1.1.0;
         stocked = k.1.1.1.1.1.0;
       }
 
-  pub stop-ok : (s : ℕ) → refusal P vs (stop s) ≡ 0 → s < P.skids
+  pub stop_ok : (s : ℕ) → refusal P vs (stop s) ≡ 0 → s < P.skids
   unfolding conditions
-  stop-ok s e = leb-false _ _ (accepted (stop s) e).0
+  stop_ok s e = leb-false _ _ (accepted (stop s) e).0
 
-  pub gate-ok : (s o r : ℕ) → refusal P vs (gate s o r) ≡ 0 → GateOk s o r
+  pub gate_ok : (s o r : ℕ) → refusal P vs (gate s o r) ≡ 0 → GateOk s o r
   unfolding conditions
-  gate-ok s o r e = let k = accepted (gate s o r) e in record { skid = leb-false _ _ k.0; tank = leb-false _ _ k.1.0; right = leb-false _ _ k.1.1.0 }
+  gate_ok s o r e = let k = accepted (gate s o r) e in record { skid = leb-false _ _ k.0; tank = leb-false _ _ k.1.0; right = leb-false _ _ k.1.1.0 }
 
-  pub gate-let : (s o r : ℕ) → GateOk s o r → refusal P vs (gate s o r) ≡ 0
+  pub gate_let : (s o r : ℕ) → GateOk s o r → refusal P vs (gate s o r) ≡ 0
   unfolding refusal conditions
-  gate-let s o r k = search (lt-leb, arith)
+  gate_let s o r k = search (lt-leb, arith)
 
   -- a gate answers 0 exactly where it is accepted and the right is held
-  pub gate-zero : (s o r : ℕ) → answer P vs (gate s o r) ≡ 0 ↔ GateOk s o r × (holds P (vs s) o r ≡ true)
-  unfolding answer acceptedAnswer
-  gate-zero s o r = (to, λ k. rw (gate-let s o r k.0, k.1))
+  pub gate_zero : (s o r : ℕ) → answer P vs (gate s o r) ≡ 0 ↔ GateOk s o r × (holds P (vs s) o r ≡ true)
+  unfolding answer accepted_answer
+  gate_zero s o r = (to, λ k. rw (gate_let s o r k.0, k.1))
     where
       to : answer P vs (gate s o r) ≡ 0 → GateOk s o r × (holds P (vs s) o r ≡ true)
       to e = split (eqb (refusal P vs (gate s o r)) 0)
-          (λ y. (gate-ok s o r (eqb-true _ _ y), split (holds P (vs s) o r) (λ h. h) (λ h. let z : ◌≡◌ {A = ℕ} 33 0 = rw (y, h) at e in absurd (omega arith))))
+          (λ y. (gate_ok s o r (eqb-true _ _ y), split (holds P (vs s) o r) (λ h. h) (λ h. let z : ◌≡◌ {A = ℕ} 33 0 = rw (y, h) at e in absurd (omega arith))))
           (λ y. absurd (eqb-false _ _ y (rw y at e)))

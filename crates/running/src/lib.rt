@@ -4,7 +4,7 @@
 ghost use Rattle.std.specs.Prelude.{◌≡◌, ◌<◌, ◌≤◌};
 ghost use Rattle.base.specs.Below.{all_below};
 ghost use Rattle.plant.specs.Checks.{Fits};
-ghost use Rattle.test20.specs.Raw.{taskIn, tankIn, chosenIn, runsIn, skidRunsIn};
+ghost use Rattle.test20.specs.Raw.{task_in, tank_in, chosen_in, runs_in, skid_runs_in};
 
 use plant::Plant;
 use sets::wide;
@@ -12,7 +12,7 @@ use sets::wide;
 // A running task is one of the plant's and one that the skid may run.
 fn task_ok(may: &[u16; 8], tasks: u8, t: u8, s: usize) -> bool
     requires { (tasks ≤ 16) × (s < 8) }
-    ensures { result ≡ taskIn may.now tasks t s }
+    ensures { result ≡ task_in may.now tasks t s }
 {
     if tasks <= t {
         return false;
@@ -23,7 +23,7 @@ fn task_ok(may: &[u16; 8], tasks: u8, t: u8, s: usize) -> bool
 // Where the running task has no right, any byte passes as the chosen tank; 255 too.
 fn tank_ok(group: &[u8; 64], tanks: u8, right: u8, o: u8, g: usize) -> bool
     requires { tanks ≤ 64 }
-    ensures { result ≡ tankIn group.now tanks right o g }
+    ensures { result ≡ tank_in group.now tanks right o g }
 {
     if right == 0 {
         return true;
@@ -44,7 +44,7 @@ fn tanks_ok<'a, 'b>(
     s: usize,
 ) -> bool
     requires { (groups ≤ 8) × ((tanks ≤ 64) × ((t < 16) × (s < 8))) }
-    ensures { result ≡ all_below (chosenIn rights.now group.now chosen.now tanks t s) groups }
+    ensures { result ≡ all_below (chosen_in rights.now group.now chosen.now tanks t s) groups }
 {
     for g in 0..groups {
         if !tank_ok(group, tanks, rights[t * 8 + g], chosen[s * 8 + g], g) {
@@ -67,7 +67,7 @@ fn skid_runs_ok<'a, 'b>(
     s: usize,
 ) -> bool
     requires { (tasks ≤ 16) × ((groups ≤ 8) × ((tanks ≤ 64) × (s < 8))) }
-    ensures { result ≡ runsIn rights.now group.now may.now chosen.now tasks groups tanks t s }
+    ensures { result ≡ runs_in rights.now group.now may.now chosen.now tasks groups tanks t s }
 {
     if t == 255 {
         return true;
@@ -80,7 +80,7 @@ fn skid_runs_ok<'a, 'b>(
 
 pub fn runs_ok<'a>(p: Plant, running: &'a [u8; 8], chosen: &'a [u8; 64]) -> bool
     requires { Fits p }
-    ensures { result ≡ all_below (skidRunsIn p running.now chosen.now) p.skids }
+    ensures { result ≡ all_below (skid_runs_in p running.now chosen.now) p.skids }
 {
     let n = p.skids as usize;
     let groups = p.groups as usize;

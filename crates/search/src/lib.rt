@@ -2,11 +2,11 @@
 #![tactic(auto)]
 
 ghost use Rattle.std.specs.Prelude.{◌≡◌, true, ℕ, ◌<◌, ◌≤◌, length};
-ghost use Rattle.base.specs.Below.{all_below, anyBelow};
+ghost use Rattle.base.specs.Below.{all_below, any_below};
 ghost use Rattle.base.specs.Bits.{bit};
-ghost use Rattle.plant.specs.Checks.{entryBelow};
-ghost use Rattle.choice.specs.Search.{nearestIn, choiceIn};
-ghost use Rattle.choice.specs.Table.{standsIn};
+ghost use Rattle.plant.specs.Checks.{entry_below};
+ghost use Rattle.choice.specs.Search.{nearest_in, choice_in};
+ghost use Rattle.choice.specs.Table.{stands_in};
 ghost use Rattle.rules.specs.declared.Monitor.{Monitor};
 ghost use Rattle.calls.specs.Kept.{Needed};
 ghost use Rattle.calls.specs.Start.{SearchReads, EntryPut, Looked};
@@ -27,9 +27,9 @@ fn is_nearest<'a>(
     tanks: u8,
 ) -> bool
     requires in_range { (l < 8) × ((v < 16) × ((o < tanks) × (tanks ≤ 64))) }
-    requires levels_in { all_below (entryBelow level.now 16) tanks ≡ true }
-    requires places_are { (y : ℕ) → bit places y ≡ anyBelow (standsIn group.now level.now g y) tanks }
-    ensures { result ≡ nearestIn sets.now group.now level.now l g v tanks o }
+    requires levels_in { all_below (entry_below level.now 16) tanks ≡ true }
+    requires places_are { (y : ℕ) → bit places y ≡ any_below (stands_in group.now level.now g y) tanks }
+    ensures { result ≡ nearest_in sets.now group.now level.now l g v tanks o }
 {
     if wide(group[o]) != g {
         return false;
@@ -49,9 +49,9 @@ fn choice_from<'a>(
     tanks: u8,
 ) -> u8
     requires in_range { (l < 8) × ((v < 16) × (tanks ≤ 64)) }
-    requires levels_in { all_below (entryBelow level.now 16) tanks ≡ true }
-    requires places_are { (y : ℕ) → bit places y ≡ anyBelow (standsIn group.now level.now g y) tanks }
-    ensures { result ≡ choiceIn sets.now group.now level.now l g v tanks }
+    requires levels_in { all_below (entry_below level.now 16) tanks ≡ true }
+    requires places_are { (y : ℕ) → bit places y ≡ any_below (stands_in group.now level.now g y) tanks }
+    ensures { result ≡ choice_in sets.now group.now level.now l g v tanks }
 {
     let mut o: u8 = 0;
     while o < tanks {
@@ -79,7 +79,7 @@ fn put_choice<'a>(
     tanks: u8,
 )
     requires search_reads { (m : Monitor) × (SearchReads sets.now lattice.now requirement.now group.now level.now levels.now s t tanks m × (g < m.plant.groups)) }
-    requires places_are { (y : ℕ) → bit places y ≡ anyBelow (standsIn group.now level.now g y) tanks }
+    requires places_are { (y : ℕ) → bit places y ≡ any_below (stands_in group.now level.now g y) tanks }
     ensures { (m : Monitor) → SearchReads sets.now lattice.now requirement.now group.now
         level.now levels.now s t tanks m → g < m.plant.groups → EntryPut m s t g made.old made.new }
 {

@@ -3,7 +3,7 @@
 
 ghost use Rattle.std.specs.Prelude.{◌<◌, ◌≤◌, length};
 ghost use Rattle.base.specs.Overlay.{Wrote};
-ghost use Rattle.printing.specs.Printed.{batchLines, printed, PrintsRead};
+ghost use Rattle.printing.specs.Printed.{batch_lines, printed, PrintsRead};
 
 use batch_call::call_batch;
 use header::{HEADER_BYTES, length_said};
@@ -21,7 +21,7 @@ pub const TEXT: usize = 131070 + 3069;
 
 fn print_batch(plant: &[u8], requests: &[u8], text: &mut [u8]) -> usize
     requires { (length requests.now ≤ 65536) × (134139 ≤ length text.old) }
-    ensures { Wrote (batchLines plant.now requests.now) text.old 0 text.new result }
+    ensures { Wrote (batch_lines plant.now requests.now) text.old 0 text.new result }
 {
     let mut results = [0u8; RESULTS];
     let number = call_batch(plant, requests, &mut results);

@@ -5,8 +5,8 @@
 ghost use Rattle.std.specs.Prelude.{◌≡◌, true};
 ghost use Rattle.rules.specs.declared.Monitor.{Monitor};
 ghost use Rattle.rules.specs.Rules.{start};
-ghost use Rattle.rules.specs.Record.{recordOf, withTask, intact};
-ghost use Rattle.calls.specs.Lent.{lentPlant, call_by, Does};
+ghost use Rattle.rules.specs.Record.{record_of, with_task, intact};
+ghost use Rattle.calls.specs.Lent.{lent_plant, call_by, Does};
 
 use calls::PlantCounts;
 use chosen::need_of;
@@ -34,10 +34,10 @@ fn start_alone<'a>(
     t: u8,
 ) -> u8
     ghost m: { Monitor }
-    requires lent { recordOf (lentPlant counts sizes.now sets.now lattice.now requirement.now group.now level.now names.now
+    requires lent { record_of (lent_plant counts sizes.now sets.now lattice.now requirement.now group.now level.now names.now
         rights.now may.now) levels.now running.old chosen.old ≡ m }
     requires passes_test_20 { intact m.plant m ≡ true }
-    ensures { Does m (start s t) result (withTask m running.new chosen.new) }
+    ensures { Does m (start s t) result (with_task m running.new chosen.new) }
 {
     let early = start_early(counts, may, running, s, t);
     if early != 0 {
@@ -83,10 +83,10 @@ pub fn call_at<'a>(
     d: u8,
 ) -> u8
     ghost m: { Monitor }
-    requires lent { recordOf (lentPlant counts sizes.now sets.now lattice.now requirement.now group.now level.now names.now
+    requires lent { record_of (lent_plant counts sizes.now sets.now lattice.now requirement.now group.now level.now names.now
         rights.now may.now) levels.old running.old chosen.old ≡ m }
     requires passes_test_20 { intact m.plant m ≡ true }
-    ensures { Does m (call_by kind a b c d) result (recordOf m.plant levels.new running.new chosen.new) }
+    ensures { Does m (call_by kind a b c d) result (record_of m.plant levels.new running.new chosen.new) }
 {
     if 2 < kind {
         if kind == 3 {

@@ -5,10 +5,10 @@ ghost use Rattle.std.specs.Prelude.{◌≡◌, true};
 ghost use Rattle.base.specs.Chain.{first};
 ghost use Rattle.rules.specs.declared.Monitor.{Monitor};
 ghost use Rattle.rules.specs.Rules.{start};
-ghost use Rattle.rules.specs.Record.{recordOf, withTask, intact};
+ghost use Rattle.rules.specs.Record.{record_of, with_task, intact};
 ghost use Rattle.calls.specs.Kept.{Needed, Tables};
-ghost use Rattle.calls.specs.Lent.{lentPlant, Does};
-ghost use Rattle.calls.specs.Start.{EarlyReads, earlyTests, StoreReads, LateDone};
+ghost use Rattle.calls.specs.Lent.{lent_plant, Does};
+ghost use Rattle.calls.specs.Start.{EarlyReads, early_tests, StoreReads, LateDone};
 
 use calls::PlantCounts;
 use choices::make_choices;
@@ -18,7 +18,7 @@ use steps::put_row;
 // Start up to 26, before any group is looked at.
 pub fn start_early(counts: PlantCounts, may: &[u16; 8], running: &[u8; 8], s: u8, t: u8) -> u8
     requires { (m : Monitor) × EarlyReads counts may.now running.now m }
-    ensures { (m : Monitor) → EarlyReads counts may.now running.now m → result ≡ first (earlyTests m s t) }
+    ensures { (m : Monitor) → EarlyReads counts may.now running.now m → result ≡ first (early_tests m s t) }
 {
     if counts.skids <= s {
         return 21;
@@ -49,7 +49,7 @@ pub fn start_late<'a>(
 ) -> u8
     requires { (m : Monitor) × (StoreReads requirement.now levels.now made.now running.old chosen.old s t m × Needed m.plant t need) }
     ensures { (m : Monitor) → StoreReads requirement.now levels.now made.now running.old
-        chosen.old s t m → Needed m.plant t need → LateDone m s t result (withTask m running.new chosen.new) }
+        chosen.old s t m → Needed m.plant t need → LateDone m s t result (with_task m running.new chosen.new) }
 {
     let mut row = [255u8; 8];
     let number = choose_row(
@@ -90,11 +90,11 @@ pub fn start_at<'a>(
     t: u8,
 ) -> u8
     ghost m: { Monitor }
-    requires lent { recordOf (lentPlant counts sizes.now sets.now lattice.now requirement.now group.now level.now names.now
+    requires lent { record_of (lent_plant counts sizes.now sets.now lattice.now requirement.now group.now level.now names.now
         rights.now may.now) levels.now running.old chosen.old ≡ m }
     requires passes_test_20 { intact m.plant m ≡ true }
     requires tables { Tables m.plant made.old needs.old }
-    ensures does { Does m (start s t) result (withTask m running.new chosen.new) }
+    ensures does { Does m (start s t) result (with_task m running.new chosen.new) }
     ensures tables { Tables m.plant made.new needs.new }
 {
     let early = start_early(counts, may, running, s, t);

@@ -3,10 +3,10 @@
 
 ghost use Rattle.std.specs.Prelude.{◌≡◌, cond, ◌*◌, ◌<◌};
 ghost use Rattle.plant.specs.declared.Plant.{Plant};
-ghost use Rattle.plant.specs.Plant.{rightsOf};
+ghost use Rattle.plant.specs.Plant.{rights_of};
 ghost use Rattle.rules.specs.declared.Monitor.{Monitor};
 ghost use Rattle.rules.specs.Rules.{set, stop};
-ghost use Rattle.rules.specs.Record.{fillFrom, withLevels, withTask};
+ghost use Rattle.rules.specs.Record.{fill_from, with_levels, with_task};
 ghost use Rattle.calls.specs.Lent.{Does, SetReads, StopReads, get_row};
 
 use calls::PlantCounts;
@@ -39,7 +39,7 @@ pub fn set_at<'a>(
 ) -> u8
     requires { (m : Monitor) × SetReads counts sizes.now lattice.now levels.old m }
     ensures { (m : Monitor) → SetReads counts sizes.now lattice.now levels.old m
-        → Does m (set s t d v) result (withLevels m levels.new) }
+        → Does m (set s t d v) result (with_levels m levels.new) }
 {
     let no_skid = counts.skids <= s;
     let no_task = counts.tasks <= t;
@@ -57,7 +57,7 @@ pub fn set_at<'a>(
 // A skid's row of eight, its choices or the rights granted to it: written whole, so that nothing stale is left.
 pub fn put_row(rows: &mut [u8; 64], s: usize, row: [u8; 8])
     requires { s < 8 }
-    ensures { rows.new ≡ fillFrom rows.old (s * 8) (get_row row) 8 }
+    ensures { rows.new ≡ fill_from rows.old (s * 8) (get_row row) 8 }
 {
     for g in 0..8 {
         rows[s * 8 + g] = row[g];
@@ -67,7 +67,7 @@ pub fn put_row(rows: &mut [u8; 64], s: usize, row: [u8; 8])
 // Gives a skid the rights of the task that it runs.
 pub fn grant_row<'a>(granted: &mut [u8; 64], rights: &'a [u8; 128], s: usize, t: usize)
     requires { (s < 8) × (t < 16) }
-    ensures { (P : Plant) → P.task_rights ≡ rights.now → granted.new ≡ fillFrom granted.old (s * 8) (rightsOf P t) 8 }
+    ensures { (P : Plant) → P.task_rights ≡ rights.now → granted.new ≡ fill_from granted.old (s * 8) (rights_of P t) 8 }
 {
     for g in 0..8 {
         granted[s * 8 + g] = rights[t * 8 + g];
@@ -78,7 +78,7 @@ pub fn grant_row<'a>(granted: &mut [u8; 64], rights: &'a [u8; 128], s: usize, t:
 pub fn stop_at(counts: PlantCounts, running: &mut [u8; 8], chosen: &mut [u8; 64], s: u8) -> u8
     requires { (m : Monitor) × StopReads counts running.old chosen.old m }
     ensures { (m : Monitor) → StopReads counts running.old chosen.old m
-        → Does m (stop s) result (withTask m running.new chosen.new) }
+        → Does m (stop s) result (with_task m running.new chosen.new) }
 {
     if counts.skids <= s {
         return 21;

@@ -9,53 +9,53 @@ use Rattle.choice.specs.Choice.{unset}
 
 -- How many levels requirement d has, and the list of these. Past the count it has 255, which every level passes, so that a row is tested to
 -- its end.
-abbrev pub levelsOfRequirement : List ℕ → List ℕ → ℕ → ℕ
-levelsOfRequirement sizes lattice d = get_or sizes (get_or lattice d 0) 0
+abbrev pub levels_of_requirement : List ℕ → List ℕ → ℕ → ℕ
+levels_of_requirement sizes lattice d = get_or sizes (get_or lattice d 0) 0
 
-abbrev pub levelsByRequirement : List ℕ → List ℕ → ℕ → List ℕ
-levelsByRequirement sizes lattice requirements = fill (levelsOfRequirement sizes lattice) (replicate 8 255) requirements
+abbrev pub levels_by_requirement : List ℕ → List ℕ → ℕ → List ℕ
+levels_by_requirement sizes lattice requirements = fill (levels_of_requirement sizes lattice) (replicate 8 255) requirements
 
 abbrev pub most : Plant → List ℕ
-most p = levelsByRequirement p.lattice_sizes p.requirement_lattice p.requirements
+most p = levels_by_requirement p.lattice_sizes p.requirement_lattice p.requirements
 
 -- xs has 255 past the requirements
 abbrev pub Free : List ℕ → ℕ → Type 0
 Free xs requirements = (d : ℕ) → requirements ≤ d → d < 8 → get_or xs d 0 ≡ 255
 
 -- level v is unset or one of n levels
-abbrev pub levelIn : ℕ → ℕ → Bool
-levelIn v n = eqb v unset || ltb v n
+abbrev pub level_in : ℕ → ℕ → Bool
+level_in v n = eqb v unset || ltb v n
 
 -- A level passes, at its requirement's place in the row of a skid and a task; all of such a row; all rows of a skid. xs has the number of
 -- levels of each requirement.
-abbrev pub rowLevelIn : List ℕ → List ℕ → ℕ → ℕ → Bool
-rowLevelIn levels xs row d = levelIn (get_or levels (row * 8 + d) 0) (get_or xs d 0)
+abbrev pub row_level_in : List ℕ → List ℕ → ℕ → ℕ → Bool
+row_level_in levels xs row d = level_in (get_or levels (row * 8 + d) 0) (get_or xs d 0)
 
-abbrev pub taskLevelsIn : List ℕ → List ℕ → ℕ → ℕ → ℕ → Bool
-taskLevelsIn levels xs requirements s t = all_below (rowLevelIn levels xs (s * 16 + t)) requirements
+abbrev pub task_levels_in : List ℕ → List ℕ → ℕ → ℕ → ℕ → Bool
+task_levels_in levels xs requirements s t = all_below (row_level_in levels xs (s * 16 + t)) requirements
 
-abbrev pub skidLevelsIn : List ℕ → List ℕ → ℕ → ℕ → ℕ → Bool
-skidLevelsIn levels xs requirements tasks s = all_below (taskLevelsIn levels xs requirements s) tasks
+abbrev pub skid_levels_in : List ℕ → List ℕ → ℕ → ℕ → ℕ → Bool
+skid_levels_in levels xs requirements tasks s = all_below (task_levels_in levels xs requirements s) tasks
 
 -- task t is one of the plant's, and one that skid s may run
-abbrev pub taskIn : List ℕ → ℕ → ℕ → ℕ → Bool
-taskIn may tasks t s = ltb t tasks && bit (get_or may s 0) t
+abbrev pub task_in : List ℕ → ℕ → ℕ → ℕ → Bool
+task_in may tasks t s = ltb t tasks && bit (get_or may s 0) t
 
 -- where the running task has a right on group g, tank o is one of that group
-abbrev pub tankIn : List ℕ → ℕ → ℕ → ℕ → ℕ → Bool
-tankIn group tanks right o g = eqb right 0 || (ltb o tanks && eqb (get_or group o 0) g)
+abbrev pub tank_in : List ℕ → ℕ → ℕ → ℕ → ℕ → Bool
+tank_in group tanks right o g = eqb right 0 || (ltb o tanks && eqb (get_or group o 0) g)
 
-abbrev pub chosenIn : List ℕ → List ℕ → List ℕ → ℕ → ℕ → ℕ → ℕ → Bool
-chosenIn rights group chosen tanks t s g = tankIn group tanks (get_or rights (t * 8 + g) 0) (get_or chosen (s * 8 + g) 0) g
+abbrev pub chosen_in : List ℕ → List ℕ → List ℕ → ℕ → ℕ → ℕ → ℕ → Bool
+chosen_in rights group chosen tanks t s g = tank_in group tanks (get_or rights (t * 8 + g) 0) (get_or chosen (s * 8 + g) 0) g
 
 -- a skid that runs nothing passes; else its task and its chosen tanks are asked
-abbrev pub runsIn : List ℕ → List ℕ → List ℕ → List ℕ → ℕ → ℕ → ℕ → ℕ → ℕ → Bool
-runsIn rights group may chosen tasks groups tanks t s =
-    eqb t unset || (taskIn may tasks t s && all_below (chosenIn rights group chosen tanks t s) groups)
+abbrev pub runs_in : List ℕ → List ℕ → List ℕ → List ℕ → ℕ → ℕ → ℕ → ℕ → ℕ → Bool
+runs_in rights group may chosen tasks groups tanks t s =
+    eqb t unset || (task_in may tasks t s && all_below (chosen_in rights group chosen tanks t s) groups)
 
-abbrev pub skidRunsIn : Plant → List ℕ → List ℕ → ℕ → Bool
-skidRunsIn p running chosen s = runsIn p.task_rights p.tank_group p.skid_tasks chosen p.tasks p.groups p.tanks (get_or running s 0) s
+abbrev pub skid_runs_in : Plant → List ℕ → List ℕ → ℕ → Bool
+skid_runs_in p running chosen s = runs_in p.task_rights p.tank_group p.skid_tasks chosen p.tasks p.groups p.tanks (get_or running s 0) s
 
 -- the three changing parts, on every skid
 abbrev pub parts_in : Plant → List ℕ → List ℕ → List ℕ → Bool
-parts_in p levels running chosen = all_below (skidLevelsIn levels (most p) p.requirements p.tasks) p.skids && all_below (skidRunsIn p running chosen) p.skids
+parts_in p levels running chosen = all_below (skid_levels_in levels (most p) p.requirements p.tasks) p.skids && all_below (skid_runs_in p running chosen) p.skids

@@ -3,7 +3,7 @@
 
 ghost use Rattle.std.specs.Prelude.{[], ◌∷◌, ◌++◌, ◌+◌, ◌<◌, ◌≤◌, length};
 ghost use Rattle.base.specs.Overlay.{Wrote};
-ghost use Rattle.printing.specs.Decimal.{decimal, decimalPlace, digit};
+ghost use Rattle.printing.specs.Decimal.{decimal, decimal_place, digit};
 ghost use Rattle.printing.specs.Text.{line};
 
 pub const SPACE: u8 = b' ';
@@ -39,8 +39,8 @@ fn put_digit(text: &mut [u8], at: usize, d: u32) -> usize
 }
 
 fn put_place(text: &mut [u8], at: usize, m: u32) -> usize
-    requires { at + length (decimalPlace m) ≤ length text.old }
-    ensures { Wrote (decimalPlace m) text.old at text.new result }
+    requires { at + length (decimal_place m) ≤ length text.old }
+    ensures { Wrote (decimal_place m) text.old at text.new result }
 {
     if m == 0 {
         return at;

@@ -4,9 +4,9 @@
 
 ghost use Rattle.std.specs.Prelude.{◌≡◌, true};
 ghost use Rattle.rules.specs.declared.Monitor.{Monitor};
-ghost use Rattle.rules.specs.Record.{recordOf, intact};
+ghost use Rattle.rules.specs.Record.{record_of, intact};
 ghost use Rattle.calls.specs.Kept.{Tables, Granted};
-ghost use Rattle.calls.specs.Lent.{lentPlant, call_by, Does};
+ghost use Rattle.calls.specs.Lent.{lent_plant, call_by, Does};
 
 use calls::PlantCounts;
 use gates::gate_granted;
@@ -39,12 +39,12 @@ pub fn turn<'a>(
     d: u8,
 ) -> u8
     ghost m: { Monitor }
-    requires lent { recordOf (lentPlant counts sizes.now sets.now lattice.now requirement.now group.now level.now names.now
+    requires lent { record_of (lent_plant counts sizes.now sets.now lattice.now requirement.now group.now level.now names.now
         rights.now may.now) levels.old running.old chosen.old ≡ m }
     requires passes_test_20 { intact m.plant m ≡ true }
     requires tables { Tables m.plant made.old needs.old }
     requires granted { Granted m.plant m.running granted.old }
-    ensures does { Does m (call_by kind a b c d) result (recordOf m.plant levels.new running.new chosen.new) }
+    ensures does { Does m (call_by kind a b c d) result (record_of m.plant levels.new running.new chosen.new) }
     ensures tables { Tables m.plant made.new needs.new }
     ensures granted { Granted m.plant running.new granted.new }
 {

@@ -1,11 +1,11 @@
 -- Each turn is the run's next call.
 use Rattle.std.proofs.Common.{◌≡◌, refl, arith}
 use Rattle.std.proofs.Math.ListN.{length-set}
-use Rattle.plant.proofs.Sound.{sound-law}
+use Rattle.plant.proofs.Sound.{sound_law}
 use Rattle.plant.proofs.Valid.{valid}
 use Rattle.calls.proofs.Made.{none_made}
-use Rattle.calls.proofs.Grants.{none-granted}
-use Rattle.calls.proofs.Served.{still-intact, next-record, next-out, first-record, first_out}
+use Rattle.calls.proofs.Grants.{none_granted}
+use Rattle.calls.proofs.Served.{still_intact, next_record, next_out, first_record, first_out}
 use Rattle.batch.proofs.serve.Goals as goal
 
 pub loop-i-init : goal.loop-i-init
@@ -14,16 +14,16 @@ loop-i-init c =
     record {
       at_most = omega arith;
       size = refl;
-      state = first-record p c.args.bytes.now;
+      state = first_record p c.args.bytes.now;
       answers = first_out p c.args.bytes.now c.args.out.now;
       tables = none_made _;
-      grants = none-granted p (valid p ((sound-law p).0 c.requires.plant_passes)).counts.skids-fit;
+      grants = none_granted p (valid p ((sound_law p).0 c.requires.plant_passes)).counts.skids_fit;
     }
 
 pub turn-requires : goal.turn-requires
 turn-requires c =
     let v = c.loop-i.invariant in
-    (refl, (still-intact c.args.p c.requires.plant_passes c.args.bytes.now c.loop-i.i v.state, (v.tables, v.grants)))
+    (refl, (still_intact c.args.p c.requires.plant_passes c.args.bytes.now c.loop-i.i v.state, (v.tables, v.grants)))
 
 pub loop-i-preserved : goal.loop-i-preserved
 loop-i-preserved c =
@@ -34,8 +34,8 @@ loop-i-preserved c =
     record {
       at_most = omega arith;
       size = simp length-set v.size;
-      state = next-record p c.requires.plant_passes bytes c.loop-i.i v.state h.leaves;
-      answers = next-out p c.requires.plant_passes bytes c.loop-i.i v.state c.args.out.now (omega arith) v.answers h.answers;
+      state = next_record p c.requires.plant_passes bytes c.loop-i.i v.state h.leaves;
+      answers = next_out p c.requires.plant_passes bytes c.loop-i.i v.state c.args.out.now (omega arith) v.answers h.answers;
       tables = c.turn.ensures.tables;
       grants = c.turn.ensures.granted;
     }

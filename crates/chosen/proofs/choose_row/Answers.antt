@@ -5,8 +5,8 @@ use Rattle.base.specs.Bits.{bit}
 use Rattle.rules.specs.declared.Monitor.{Monitor}
 use Rattle.calls.specs.Kept.{NeedsAt, Needed}
 use Rattle.calls.specs.Start.{LateReads, GroupDone}
-use Rattle.calls.proofs.Groups.{Eight, none_yet, next-group, goes_down, ends-27, becomes-28, stays, all_seen}
-use Rattle.calls.proofs.Late.{StartSoFar, Found, group-there, below-eight, one-done, row_done}
+use Rattle.calls.proofs.Groups.{Eight, none_yet, next_group, goes_down, ends_27, becomes_28, stays, all_seen}
+use Rattle.calls.proofs.Late.{StartSoFar, Found, group_there, below_eight, one_done, row_done}
 use Rattle.chosen.proofs.choose_row.Goals as goal
 
 -- in the loop: the group that it has come to, which the task needs
@@ -16,20 +16,20 @@ module _ {requirement levels made : List ℕ} {s t : ℕ} {m : Monitor} (R : Lat
   g = count_trailing_zeros 16 rest
 
   eight : Eight rest
-  eight j b = below-eight R.wishes need n j (v.part j b)
+  eight j b = below_eight R.wishes need n j (v.part j b)
 
   group : (g < 8) × (bit rest g ≡ true)
-  group = next-group rest eight z
+  group = next_group rest eight z
 
   there : NeedsAt m.plant t g
-  there = group-there R.wishes need n g (v.part g group.1)
+  there = group_there R.wishes need n g (v.part g group.1)
 
   -- and the rest without it
   down : {left : ℕ} → ((j : ℕ) → bit left j ≡ bit rest j && not (eqb g j)) → left < rest
   down {left} w = goes_down rest left g eight group.1 w
 
   found : {own : ℕ} {row' : List ℕ} → (NeedsAt m.plant t g → GroupDone m s t g row own row') → Found m s t g row own row'
-  found d = one-done R g there (d there)
+  found d = one_done R g there (d there)
 
 pub loop-rest-init : goal.loop-rest-init
 loop-rest-init c = λ m R n. none_yet _ _ _ _ c.requires.empty_row
@@ -49,7 +49,7 @@ returns-then-own-eq27 c = λ m R n.
     let v = c.loop-rest.invariant m R n in
     let z = c.loop-rest-test.true in
     let l = group R n v z in
-    row_done R c.args.need n (ends-27 v _ _ l.0 l.1 c.without_one-rest.ensures (found R n v z (c.choose_at-own.ensures m R)) c.if-own-eq27.true)
+    row_done R c.args.need n (ends_27 v _ _ l.0 l.1 c.without_one-rest.ensures (found R n v z (c.choose_at-own.ensures m R)) c.if-own-eq27.true)
 
 pub loop-rest-smaller-then-own-eq28 : goal.loop-rest-smaller-then-own-eq28
 loop-rest-smaller-then-own-eq28 c =
@@ -61,7 +61,7 @@ loop-rest-preserved-then-own-eq28 c = λ m R n.
     let v = c.loop-rest.invariant m R n in
     let z = c.loop-rest-test.true in
     let l = group R n v z in
-    becomes-28 v _ _ l.0 l.1 c.without_one-rest.ensures (found R n v z (c.choose_at-own.ensures m R)) c.if-own-eq27.false c.if-own-eq28.true refl
+    becomes_28 v _ _ l.0 l.1 c.without_one-rest.ensures (found R n v z (c.choose_at-own.ensures m R)) c.if-own-eq27.false c.if-own-eq28.true refl
 
 pub loop-rest-smaller : goal.loop-rest-smaller
 loop-rest-smaller c =

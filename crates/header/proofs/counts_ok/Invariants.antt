@@ -2,8 +2,8 @@
 use Rattle.std.proofs.Common.{◌≡◌, ℕ, true}
 use Rattle.base.specs.Below.{all_below}
 use Rattle.layout.specs.Layout.{count}
-use Rattle.layout.specs.Header.{countOk}
+use Rattle.layout.specs.Header.{count_ok}
 use Rattle.header.proofs.counts_ok.Given as goal
 
 abbrev pub invariant-loop-kind : goal.invariant-loop-kind
-invariant-loop-kind l = all_below (λ (k : ℕ). countOk k (count l.file k)) l.kind ≡ true
+invariant-loop-kind l = all_below (λ (k : ℕ). count_ok k (count l.file k)) l.kind ≡ true

@@ -1,10 +1,10 @@
 -- The places taken are those of the tanks passed.
 use Rattle.std.proofs.Common.{◌≡◌, true, not, ℕ}
 use Rattle.base.specs.Below.{all_below}
-use Rattle.plant.specs.Checks.{atOneLevel}
-use Rattle.plant.proofs.Places.{takenBy}
+use Rattle.plant.specs.Checks.{at_one_level}
+use Rattle.plant.proofs.Places.{taken_by}
 use Rattle.items.proofs.levels_distinct.Given as goal
 
 abbrev pub invariant-loop-a : goal.invariant-loop-a
 invariant-loop-a l =
-    (l.taken ≡ takenBy l.p l.a) × (all_below (λ (x : ℕ). all_below (λ (y : ℕ). not (atOneLevel l.p x y)) x) l.a ≡ true)
+    (l.taken ≡ taken_by l.p l.a) × (all_below (λ (x : ℕ). all_below (λ (y : ℕ). not (at_one_level l.p x y)) x) l.a ≡ true)

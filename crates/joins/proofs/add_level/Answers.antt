@@ -3,8 +3,8 @@ use Rattle.std.proofs.Common.{◌≡◌, List, get_or, ℕ, suc, ◌+◌, ◌*�
 use native.Mathlib.Nat.{mod-lt, zero-lt-suc, mul-le-mul_right, pow-suc}
 use lib.Pow.{shl_exact, pow_mono}
 use Rattle.base.specs.Fill.{fill}
-use Rattle.base.proofs.Filled.{fill-entry, fill-next, filled}
-use Rattle.lattice.specs.Sets.{addedAt}
+use Rattle.base.proofs.Filled.{fill_entry, fill_next, filled}
+use Rattle.lattice.specs.Sets.{added_at}
 use Rattle.joins.proofs.add_level.Goals as goal
 
 module _ (t₀ : List ℕ) (x i j : ℕ) (l : i < 16) where
@@ -12,9 +12,9 @@ module _ (t₀ : List ℕ) (x i j : ℕ) (l : i < 16) where
   placed : (x / 2 ^ j % 2 * 2 ^ i) % 65536 ≡ x / 2 ^ j % 2 * 2 ^ i
   placed = shl_exact 1 i 16 (mod-lt (x / 2 ^ j) (zero-lt-suc 1)) (omega arith)
 
-  module _ {t : List ℕ} (e : t ≡ fill (addedAt t₀ x i) t₀ j) where
-    value : get_or t j 0 + (x / 2 ^ j % 2 * 2 ^ i) % 65536 ≡ addedAt t₀ x i j
-    value = rw (fill-entry (addedAt t₀ x i) t₀ j 0 e, placed)
+  module _ {t : List ℕ} (e : t ≡ fill (added_at t₀ x i) t₀ j) where
+    value : get_or t j 0 + (x / 2 ^ j % 2 * 2 ^ i) % 65536 ≡ added_at t₀ x i j
+    value = rw (fill_entry (added_at t₀ x i) t₀ j 0 e, placed)
 
     fits : get_or t₀ j 0 < 2 ^ i → get_or t j 0 + (x / 2 ^ j % 2 * 2 ^ i) % 65536 < 65536
     fits h =
@@ -31,4 +31,4 @@ overflow_add-t c =
 
 pub loop-j-preserved : goal.loop-j-preserved
 loop-j-preserved c =
-    (search rules, fill-next _ _ c.loop-j.j c.loop-j.invariant.1 (value c.args.t.now c.args.x c.args.i c.loop-j.j c.requires.0 c.loop-j.invariant.1))
+    (search rules, fill_next _ _ c.loop-j.j c.loop-j.invariant.1 (value c.args.t.now c.args.x c.args.i c.loop-j.j c.requires.0 c.loop-j.invariant.1))

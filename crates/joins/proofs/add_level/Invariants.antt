@@ -1,11 +1,11 @@
 -- The levels passed have level i in their sets, where it belongs.
 use Rattle.std.proofs.Common.{◌≡◌, ◌≤◌, ◌-◌}
 use Rattle.base.specs.Fill.{fill}
-use Rattle.lattice.specs.Sets.{addedAt}
+use Rattle.lattice.specs.Sets.{added_at}
 use Rattle.joins.proofs.add_level.Given as goal
 
 abbrev pub invariant-loop-j : goal.invariant-loop-j
-invariant-loop-j l = (l.j ≤ 16) × (l.t ≡ fill (addedAt l.initial.t l.x l.i) l.initial.t l.j)
+invariant-loop-j l = (l.j ≤ 16) × (l.t ≡ fill (added_at l.initial.t l.x l.i) l.initial.t l.j)
 
 abbrev pub decreases-loop-j : goal.decreases-loop-j
 decreases-loop-j l = 16 - l.j

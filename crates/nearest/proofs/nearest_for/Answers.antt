@@ -1,7 +1,7 @@
 -- The levels for which a tank is nearest, by the three sets that the code makes.
-use Rattle.choice.proofs.Levels.{nearest-made}
+use Rattle.choice.proofs.Levels.{nearest_made}
 use Rattle.nearest.proofs.nearest_for.Goals as goal
 
 pub returns : goal.returns
 returns c =
-    nearest-made c.args.sets.now c.args.l c.args.places c.args.x _ _ _ c.without_one-nearer.ensures c.above_in-taken.ensures c.without_set.ensures
+    nearest_made c.args.sets.now c.args.l c.args.places c.args.x _ _ _ c.without_one-nearer.ensures c.above_in-taken.ensures c.without_set.ensures

@@ -1,6 +1,6 @@
 -- What is in x and not in y, bit by bit.
-use Rattle.choice.proofs.Levels.{without-set}
+use Rattle.choice.proofs.Levels.{without_set_lem}
 use Rattle.nearest.proofs.without_set.Goals as goal
 
 pub returns : goal.returns
-returns c = without-set c.args.x c.args.y
+returns c = without_set_lem c.args.x c.args.y

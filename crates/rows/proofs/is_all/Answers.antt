@@ -3,10 +3,10 @@ use Rattle.std.proofs.Common.{ℕ, ◌+◌, ◌<◌, sym, ap, ◌∙◌, arith}
 use native.Mathlib.Nat.{one-mul}
 use lib.Pow.{shl_exact}
 use borrow.Author.Tests.{eqb-true}
-use Rattle.lattice.proofs.Compared.{all-bits}
+use Rattle.lattice.proofs.Compared.{all_bits}
 use Rattle.rows.proofs.is_all.Goals as goal
 
 pub returns : goal.returns
 returns c e =
-    all-bits _ _ (ap (λ (m : ℕ). m + 1) (sym c.wider.ensures) ∙ eqb-true _ _ e
+    all_bits _ _ (ap (λ (m : ℕ). m + 1) (sym c.wider.ensures) ∙ eqb-true _ _ e
     ∙ shl_exact 1 _ 32 (let b : 1 < 2 = omega arith in b) (omega arith) ∙ one-mul _)

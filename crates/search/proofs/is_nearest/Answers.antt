@@ -1,7 +1,7 @@
 -- The tank is of the group, and the level is one for which it is nearest.
 use Rattle.std.proofs.Common.{◌∙◌, rules}
 use Rattle.plant.proofs.Links.{entry_at}
-use Rattle.choice.proofs.Places.{nearest-here}
+use Rattle.choice.proofs.Places.{nearest_here}
 use Rattle.search.proofs.is_nearest.Goals as goal
 
 pub nearest_for-requires : goal.nearest_for-requires
@@ -14,5 +14,5 @@ nearest_for-requires c =
 pub returns : goal.returns
 returns c =
     let a = c.args in
-    c.has.ensures ∙ nearest-here a.sets.now a.group.now a.level.now a.l a.g a.v a.tanks a.places c.requires.places_are a.o
+    c.has.ensures ∙ nearest_here a.sets.now a.group.now a.level.now a.l a.g a.v a.tanks a.places c.requires.places_are a.o
     (λ b m. entry_at a.level.now 16 a.tanks b c.requires.levels_in m) c.nearest_for.result (rw c.wide-2.ensures at (c.nearest_for.ensures a.v)) (rw c.wide.ensures at c.if-wide-g.false)

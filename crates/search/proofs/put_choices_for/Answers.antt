@@ -5,9 +5,9 @@ use Rattle.base.specs.Bits.{bit}
 use Rattle.rules.specs.declared.Monitor.{Monitor}
 use Rattle.calls.specs.Kept.{NeedsAt, Needed}
 use Rattle.calls.specs.Start.{WishReads}
-use Rattle.calls.proofs.Groups.{Eight, next-group, goes_down}
-use Rattle.calls.proofs.Late.{group-there, below-eight}
-use Rattle.calls.proofs.Searched.{tanks-fit, groups-in, levels-in, LookedSoFar, looked-next}
+use Rattle.calls.proofs.Groups.{Eight, next_group, goes_down}
+use Rattle.calls.proofs.Late.{group_there, below_eight}
+use Rattle.calls.proofs.Searched.{tanks_fit, groups_in, levels_in, LookedSoFar, looked_next}
 use Rattle.search.proofs.put_choices_for.Goals as goal
 
 -- in the loop: the group that it has come to, which the task needs
@@ -17,26 +17,26 @@ module _ {requirement levels : List ℕ} {s t : ℕ} {m : Monitor} (W : WishRead
   g = count_trailing_zeros 16 rest
 
   eight : Eight rest
-  eight j b = below-eight W need n j (v.part j b)
+  eight j b = below_eight W need n j (v.part j b)
 
   group : (g < 8) × (bit rest g ≡ true)
-  group = next-group rest eight z
+  group = next_group rest eight z
 
   there : NeedsAt m.plant t g
-  there = group-there W need n g (v.part g group.1)
+  there = group_there W need n g (v.part g group.1)
 
   -- and the rest without it
   down : {left : ℕ} → ((j : ℕ) → bit left j ≡ bit rest j && not (eqb g j)) → left < rest
   down {left} w = goes_down rest left g eight group.1 w
 
 pub places_of-places-requires-clause-tanks_in : goal.places_of-places-requires-clause-tanks_in
-places_of-places-requires-clause-tanks_in c = tanks-fit c.requires.search_reads.1.0
+places_of-places-requires-clause-tanks_in c = tanks_fit c.requires.search_reads.1.0
 
 pub places_of-places-requires-clause-groups_in : goal.places_of-places-requires-clause-groups_in
-places_of-places-requires-clause-groups_in c = groups-in c.requires.search_reads.1.0
+places_of-places-requires-clause-groups_in c = groups_in c.requires.search_reads.1.0
 
 pub places_of-places-requires-clause-levels_in : goal.places_of-places-requires-clause-levels_in
-places_of-places-requires-clause-levels_in c = levels-in c.requires.search_reads.1.0
+places_of-places-requires-clause-levels_in c = levels_in c.requires.search_reads.1.0
 
 pub without_one-rest-requires : goal.without_one-rest-requires
 without_one-rest-requires c =
@@ -67,4 +67,4 @@ pub loop-rest-preserved : goal.loop-rest-preserved
 loop-rest-preserved c = λ m R n.
     let v = c.loop-rest.invariant m R n in
     let z = c.loop-rest-test.true in
-    looked-next v R.wishes n _ c.without_one-rest.result (group R.wishes n v z).1 c.without_one-rest.ensures (c.put_choice.ensures m R (there R.wishes n v z).0)
+    looked_next v R.wishes n _ c.without_one-rest.result (group R.wishes n v z).1 c.without_one-rest.ensures (c.put_choice.ensures m R (there R.wishes n v z).0)

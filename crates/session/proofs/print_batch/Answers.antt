@@ -2,11 +2,11 @@
 use Rattle.std.proofs.Common.{arith}
 use Rattle.std.proofs.Math.ListN.{replicate, length-replicate}
 use Rattle.base.proofs.Written.{wrote_as}
-use Rattle.printing.proofs.Batched.{batched-lines}
+use Rattle.printing.proofs.Batched.{batched_lines}
 use Rattle.session.proofs.print_batch.Goals as goal
 
 pub returns : goal.returns
 returns c =
     wrote_as
-    (batched-lines c.args.plant.now c.args.requests.now (replicate 13873 0) (rw length-replicate (omega arith)) c.call_batch-number.ensures.0 c.call_batch-number.ensures.1)
+    (batched_lines c.args.plant.now c.args.requests.now (replicate 13873 0) (rw length-replicate (omega arith)) c.call_batch-number.ensures.0 c.call_batch-number.ensures.1)
     c.print_outcome.ensures

@@ -1,63 +1,63 @@
 -- The early tests, and the row and its number, are the rules', of the record whose parts are lent.
 use Rattle.std.proofs.Common.{refl}
 use native.Mathlib.Nat.{lt_of_lt_of_le}
-use Rattle.calls.proofs.Ready.{plant-valid, links-there, groups-counted, levels-there}
+use Rattle.calls.proofs.Ready.{plant_valid, links_there, groups_counted, levels_there}
 use Rattle.calls.proofs.Made.{all_made}
-use Rattle.calls.proofs.Own.{own-early, own-wishes, own-store}
-use Rattle.calls.proofs.Late.{table-looked}
-use Rattle.calls.proofs.Start.{passed, refused-early, done-late}
+use Rattle.calls.proofs.Own.{own_early, own_wishes, own_store}
+use Rattle.calls.proofs.Late.{table_looked}
+use Rattle.calls.proofs.Start.{passed, refused_early, done_late}
 use Rattle.starts.proofs.start_at.Goals as goal
 
 pub returns-then-early-ne0-clause-does : goal.returns-then-early-ne0-clause-does
 returns-then-early-ne0-clause-does g c =
     let i = rw (← c.requires.0) at c.requires.1.0 in
-    rw (← c.requires.0) (refused-early _ c.args.s c.args.t (c.start_early-early.ensures _ (own-early _ i)) c.if-early-ne0.true)
+    rw (← c.requires.0) (refused_early _ c.args.s c.args.t (c.start_early-early.ensures _ (own_early _ i)) c.if-early-ne0.true)
 
 pub make_choices-requires-clause-counts_in : goal.make_choices-requires-clause-counts_in
 make_choices-requires-clause-counts_in g c =
     let i = rw (← c.requires.0) at c.requires.1.0 in
-    let f = (plant-valid _ i).counts in
-    (f.groups-fit, f.tanks-fit)
+    let f = (plant_valid _ i).counts in
+    (f.groups_fit, f.tanks_fit)
 
 pub make_choices-requires-clause-links_in : goal.make_choices-requires-clause-links_in
-make_choices-requires-clause-links_in g c = let i = rw (← c.requires.0) at c.requires.1.0 in links-there _ i
+make_choices-requires-clause-links_in g c = let i = rw (← c.requires.0) at c.requires.1.0 in links_there _ i
 
 pub make_choices-requires-clause-groups_in : goal.make_choices-requires-clause-groups_in
-make_choices-requires-clause-groups_in g c = let i = rw (← c.requires.0) at c.requires.1.0 in groups-counted _ i
+make_choices-requires-clause-groups_in g c = let i = rw (← c.requires.0) at c.requires.1.0 in groups_counted _ i
 
 pub make_choices-requires-clause-levels_in : goal.make_choices-requires-clause-levels_in
-make_choices-requires-clause-levels_in g c = let i = rw (← c.requires.0) at c.requires.1.0 in levels-there _ i
+make_choices-requires-clause-levels_in g c = let i = rw (← c.requires.0) at c.requires.1.0 in levels_there _ i
 
 pub need_once-need-requires : goal.need_once-need-requires
 need_once-need-requires g c =
     let i = rw (← c.requires.0) at c.requires.1.0 in
-    let f = (plant-valid _ i).counts in
-    let there = passed _ c.args.s c.args.t (c.start_early-early.ensures _ (own-early _ i)) c.if-early-ne0.false in
-    (lt_of_lt_of_le there.1 f.tasks-fit, f.groups-fit)
+    let f = (plant_valid _ i).counts in
+    let there = passed _ c.args.s c.args.t (c.start_early-early.ensures _ (own_early _ i)) c.if-early-ne0.false in
+    (lt_of_lt_of_le there.1 f.tasks_fit, f.groups_fit)
 
 pub start_late-requires : goal.start_late-requires
 start_late-requires g c =
     let i = rw (← c.requires.0) at c.requires.1.0 in
-    let there = passed _ c.args.s c.args.t (c.start_early-early.ensures _ (own-early _ i)) c.if-early-ne0.false in
+    let there = passed _ c.args.s c.args.t (c.start_early-early.ensures _ (own_early _ i)) c.if-early-ne0.false in
     let t = (rw (← c.requires.0) at c.requires.1.1).tasks in (
       _,
       (
-        own-store _ i c.args.s c.args.t there (table-looked (own-wishes _ i c.args.s c.args.t there) c.make_choices.ensures),
-        (c.need_once-need.ensures _ (record { rights-are = refl; groups-are = refl }) t).0,
+        own_store _ i c.args.s c.args.t there (table_looked (own_wishes _ i c.args.s c.args.t there) c.make_choices.ensures),
+        (c.need_once-need.ensures _ (record { rights_are = refl; groups_are = refl }) t).0,
       ),
     )
 
 pub returns-clause-does : goal.returns-clause-does
 returns-clause-does g c =
     let i = rw (← c.requires.0) at c.requires.1.0 in
-    let e = c.start_early-early.ensures _ (own-early _ i) in
+    let e = c.start_early-early.ensures _ (own_early _ i) in
     let there = passed _ c.args.s c.args.t e c.if-early-ne0.false in
     let t = (rw (← c.requires.0) at c.requires.1.1).tasks in
-    rw (← c.requires.0) (done-late _ c.args.s c.args.t e c.if-early-ne0.false (c.start_late.ensures _
-    (own-store _ i c.args.s c.args.t there (table-looked (own-wishes _ i c.args.s c.args.t there) c.make_choices.ensures))
-    (c.need_once-need.ensures _ (record { rights-are = refl; groups-are = refl }) t).0))
+    rw (← c.requires.0) (done_late _ c.args.s c.args.t e c.if-early-ne0.false (c.start_late.ensures _
+    (own_store _ i c.args.s c.args.t there (table_looked (own_wishes _ i c.args.s c.args.t there) c.make_choices.ensures))
+    (c.need_once-need.ensures _ (record { rights_are = refl; groups_are = refl }) t).0))
 
 pub returns-clause-tables : goal.returns-clause-tables
 returns-clause-tables g c =
     let t = (rw (← c.requires.0) at c.requires.1.1).tasks in
-    rw (← c.requires.0) (all_made c.make_choices.ensures (c.need_once-need.ensures _ (record { rights-are = refl; groups-are = refl }) t).1)
+    rw (← c.requires.0) (all_made c.make_choices.ensures (c.need_once-need.ensures _ (record { rights_are = refl; groups_are = refl }) t).1)

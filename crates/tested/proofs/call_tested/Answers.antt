@@ -2,11 +2,11 @@
 use Rattle.std.proofs.Common.{rules}
 use Rattle.requests.specs.Requests.{call_of}
 use Rattle.requests.proofs.Step.{passed_on}
-use Rattle.requests.proofs.Passed.{still-passes}
+use Rattle.requests.proofs.Passed.{still_passes}
 use Rattle.tested.proofs.call_tested.Goals as goal
 
 pub returns : goal.returns
 returns c =
     let m = c.args.m in
-    still-passes m c.requires (record { levels-len = search rules; running-len = search rules; chosen_len = search rules }) (call_of c.args.r)
+    still_passes m c.requires (record { levels_len = search rules; running_len = search rules; chosen_len = search rules }) (call_of c.args.r)
     (rw (c.put_running.ensures, c.put_chosen.ensures) (passed_on m c.requires (call_of c.args.r) c.call_at.ensures.answers c.call_at.ensures.leaves))
