@@ -43,7 +43,7 @@ module _ (m : Monitor) (i : intact m.plant m ≡ true) where
       (λ o l.
       let g = plant_valid.group_in o l in
       let r = plant_valid.req_in (group_of m.plant o) g in
-      lt-ltb (level_of m.plant o) 16 (omega (arith, plant_valid.level_in_lem o l, plant_valid.levels_fit (requirement_of m.plant (group_of m.plant o)) r)))
+      lt-ltb (level_of m.plant o) 16 (omega (arith, plant_valid.level_in_lattice o l, plant_valid.levels_fit (requirement_of m.plant (group_of m.plant o)) r)))
 
   pub task_there : (s : ℕ) → s < m.plant.skids → get_or m.running s 0 ≢ 255 → get_or m.running s 0 < 16
   unfolding view_of

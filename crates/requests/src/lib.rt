@@ -1,5 +1,6 @@
 // A request and the answer to it, by value: the records, the definitions of the calls and of opening, and their laws.
 #![tactic(auto)]
+
 use rules::Monitor;
 
 // Kind 0 is set, 1 start, 2 stop, 3 gate. The four bytes are the call's arguments in their order; those that the call has no use for are ignored.

@@ -37,7 +37,7 @@ module _ (P : Plant) (vs : ℕ → View) where
   pub record StartOk (s t : ℕ) : Type 0 where
     pub skid : s < P.skids
     pub task : t < P.tasks
-    pub may_run_lem : may_run P s t ≡ true
+    pub allowed : may_run P s t ≡ true
     pub idle : (vs s).running ≡ unset
     pub filled : blank P t ((vs s).level t) ≡ false
     pub stocked : lacking P t ((vs s).level t) ≡ false
@@ -60,7 +60,7 @@ module _ (P : Plant) (vs : ℕ → View) where
       record {
         skid = leb-false _ _ k.0;
         task = leb-false _ _ k.1.0;
-        may_run_lem = not-false _ k.1.1.0;
+        allowed = not-false _ k.1.1.0;
         idle = eqb-true _ _ (not-false _ k.1.1.1.0);
         filled = k.1.1.1.1.0;
         stocked = k.1.1.1.1.1.0;

@@ -60,4 +60,4 @@ module _ (P : Plant) (X : Valid P) (a : List Call) (S : AllAccepted P a) (s : 鈩
       by_start idle e = and_both (task_ok P s (history_view P a s)) (all_below (位 g. tank_ok P (history_view P a s) g) P.groups) (rw e) (all_yes P.groups (位 g. tank_ok P (history_view P a s) g) (位 g l. rw e))
       by_start (since t b) e =
           let k = started_ok t b e in
-          and_both (task_ok P s (history_view P a s)) (all_below (位 g. tank_ok P (history_view P a s) g) P.groups) (rw (e, lt-ltb t P.tasks k.task, k.may_run_lem, or-true)) (all_yes P.groups (位 g. tank_ok P (history_view P a s) g) (位 g l. rw e (tank_intact t b k g l)))
+          and_both (task_ok P s (history_view P a s)) (all_below (位 g. tank_ok P (history_view P a s) g) P.groups) (rw (e, lt-ltb t P.tasks k.task, k.allowed, or-true)) (all_yes P.groups (位 g. tank_ok P (history_view P a s) g) (位 g l. rw e (tank_intact t b k g l)))

@@ -1,5 +1,6 @@
 // The monitor's record. The rules of its calls, the history of a list of calls and demand 3 stand in specs/ and proofs/.
 #![tactic(auto)]
+
 use plant::Plant;
 
 // The plant and three changing parts: a level for each skid, task and requirement at (s * 16 + t) * 8 + d, a running task for each skid,

@@ -1,5 +1,6 @@
 // Small numbers: sets of those under sixteen, a bit each, and numbers made wider.
 #![tactic(auto)]
+
 ghost use Rattle.std.specs.Prelude.{◌≡◌, cond, not, ◌&&◌, ◌||◌, eqb, ℕ, ◌^◌, ◌<◌};
 ghost use Rattle.std.specs.Int.Bits.{bit_or};
 ghost use Rattle.base.specs.Bits.{bit};
