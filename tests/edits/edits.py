@@ -22,7 +22,7 @@ REFUSED = "refused, as it must be: "
 ERROR = re.compile(r"(?:\./)?((?:specs|proofs)/\S+\.antt):\d+:\d+: error: `([^`]+)`: ")
 # What the check's own walk of a function leaves open: file and line of the function or of a part of it.
 OPEN = re.compile(r"note: (?:\./)?(src/\S+\.rt):(\d+):\d+: it is not proved that ")
-# The files of the proof of one function, in a folder of its name.
+# The files of the proof of one function, in a folder of its name below proofs/; a file of laws may have one of these names too.
 PARTS = {"Answers.antt", "Invariants.antt", "Proof.antt"}
 PAIR = re.compile(r"^file: (\S+)$|^old: (.*)$", re.M)
 ROW = re.compile(r"^\| (\w+/[\w.-]+) \| (.*) \| (.*) \| (.*) \|$", re.M)
@@ -41,7 +41,7 @@ def fact(crate, said):
     said = said.removeprefix(REFUSED)
     if error := ERROR.match(said):
         place = Path(error[1])
-        if place.name in PARTS:
+        if place.name in PARTS and len(place.parts) > 2:
             return f"the contract of `{place.parent.name}`"
         return f"`{error[2]}`, {place.with_suffix('')}"
     if left := OPEN.match(said):

@@ -4,11 +4,10 @@ use mathlib.Core.Logic.{◌≢◌, ⊎_elim}
 use Prim.Native.Nat.{ℕ, ◌<◌}
 use native.Mathlib.Omega.{arith}
 use mathlib.Core.Bool.{true}
-use lib.Dec.{eqb, ltb}
 use lib.ListN.{get_or}
-use borrow.Author.Tests.{lt-ltb, eq-eqb}
+use borrow.Author.Tests.{lt-ltb}
 use Rattle.base.specs.Below.{all_below}
-use Rattle.base.proofs.Logic.{and_both, or_left, or_right}
+use Rattle.base.proofs.Logic.{and_both}
 use Rattle.base.proofs.Below.{all_yes}
 use Rattle.plant.specs.Plant.{requirement_of, levels_of, level_of, group_of, lattice_of}
 use Rattle.plant.specs.Checks.{entry_below, Sound}

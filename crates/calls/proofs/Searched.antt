@@ -1,5 +1,5 @@
 -- The choices that a start by itself looks up, searched for one group after the other. Assumes nothing.
-use mathlib.Core.Path.{◌≡◌, refl, sym, ap, ◌∙◌}
+use mathlib.Core.Path.{◌≡◌, sym, ◌∙◌}
 use mathlib.Core.Logic.{◌≢◌}
 use Prim.Native.Nat.{ℕ, ◌+◌, ◌*◌, ◌<◌, ◌≤◌}
 use native.Mathlib.Omega.{arith}
@@ -9,11 +9,10 @@ use mathlib.Core.List.{List}
 use lib.Dec.{eqb}
 use lib.ListN.{length, get_or, set, length-set}
 use lib.Seq.{get_or-set_same, get_or-set_other}
-use borrow.Author.Tests.{eqb-true, eqb-false, eq-eqb, ne_eqb, lt-ltb}
+use borrow.Author.Tests.{eqb-true, eqb-false, eq-eqb, ne_eqb}
 use Rattle.base.specs.Below.{all_below}
 use Rattle.base.specs.Bits.{bit}
-use Rattle.base.proofs.Logic.{split, true_false, and_true}
-use Rattle.base.proofs.Bits.{zero_bit}
+use Rattle.base.proofs.Logic.{split, and_true}
 use Rattle.plant.specs.Plant.{requirement_of}
 use Rattle.plant.specs.Checks.{entry_below}
 use Rattle.choice.specs.Choice.{unset, choice}
@@ -22,7 +21,7 @@ use Rattle.choice.proofs.Search.{search_choice}
 use Rattle.choice.proofs.Table.{entries_wider}
 use Rattle.rules.specs.declared.Monitor.{Monitor}
 use Rattle.calls.specs.Kept.{Needed}
-use Rattle.calls.specs.Start.{wish_of, WishReads, SearchReads, EntryPut, Looked}
+use Rattle.calls.specs.Start.{wish_of, WishReads, SearchReads, EntryPut}
 use Rattle.calls.proofs.Groups.{seen}
 use Rattle.calls.proofs.Late.{stored, is_wish, level_fits, group_fits, group_there}
 use Rattle.calls.proofs.Ready.{plant_valid, groups_counted, levels_there}
@@ -65,13 +64,7 @@ module _ (m : Monitor) (s t need : ℕ) where
     pub entries : (g : ℕ) → seen need rest g ≡ true → wish_of m s t (requirement_of m.plant g) ≢ unset
         → get_or made (g * 16 + wish_of m s t (requirement_of m.plant g)) 0 ≡ choice m.plant g (wish_of m s t)
 
-  pub looked_none : {made : List ℕ} → length made ≡ 128 → LookedSoFar need made
-  looked_none e = record { part = λ g h. h; size = e; entries = λ g h. absurd (let z : ◌≡◌ {A = Bool} true false = sym h ∙ and-not_self (bit need g) in true_false z) }
-
 module _ {m : Monitor} {s t need rest : ℕ} {made : List ℕ} (v : LookedSoFar m s t need rest made) where
-  pub looked_all : rest ≡ 0 → Needed m.plant t need → Looked m s t made
-  looked_all z n g l = v.entries g (rw (n g, lt-ltb _ _ l.0, l.1, z, zero_bit g))
-
   module _ {requirement levels : List ℕ} (W : WishReads requirement levels s t m) (n : Needed m.plant t need) (g left : ℕ) (h : bit rest g ≡ true)
       (w : (j : ℕ) → bit left j ≡ bit rest j && not (eqb g j)) where
     -- a level that is set is one of sixteen

@@ -3,7 +3,7 @@
 use mathlib.Core.Path.{◌≡◌, refl, sym, ap, ◌∙◌}
 use mathlib.Core.Logic.{◌≢◌}
 use Prim.Native.Nat.{ℕ, ◌*◌, ◌<◌}
-use mathlib.Core.Bool.{true, cond, not}
+use mathlib.Core.Bool.{cond, not}
 use mathlib.Core.List.{List, [], ◌∷◌}
 use lib.Dec.{eqb, leb}
 use lib.ListN.{get_or}
@@ -15,7 +15,7 @@ use Rattle.base.proofs.Chain.{Numbered, clear, first_append}
 use Rattle.base.proofs.Logic.{split}
 use Rattle.rules.specs.declared.Monitor.{Monitor}
 use Rattle.rules.specs.Rules.{start, conditions, refusal, accepted_answer, pick_for}
-use Rattle.rules.specs.Record.{view_of, fill_from, changed, intact, with_task}
+use Rattle.rules.specs.Record.{view_of, fill_from, changed, with_task}
 use Rattle.calls.specs.declared.PlantCounts.{PlantCounts}
 use Rattle.calls.specs.Lent.{Does, get_row}
 use Rattle.calls.specs.Start.{early_tests, late_tests, EarlyReads, wish_of, RowDone, StoreReads, LateDone}

@@ -20,11 +20,12 @@ fn read_full(mut input: Stdin, buf: &mut [u8]) -> usize
     done
 }
 
-// A write that fails is not reported: the exit status is 0 in any case.
+// A write that fails is not reported: the exit status is 0 in any case. Both arrays are made before the input is read, since the compiler clears one
+// twice that is made between.
 fn main(rt: HostRuntime) {
     let mut input = [0u8; INPUT];
-    let n = read_full(rt.stdin(), &mut input);
     let mut text = [0u8; TEXT];
+    let n = read_full(rt.stdin(), &mut input);
     let k = print_read(&input, n, &mut text);
     let _ = rt.stdout().write_all(&text[..k]);
 }

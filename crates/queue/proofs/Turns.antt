@@ -69,9 +69,6 @@ module _ (m : Monitor) (rs : List Request) (ys : List ℕ) where
       ap (λ (z : List ℕ). set z i r.answer) b ∙ ap (λ (k : ℕ). set (buffer i) k r.answer) (sym n)
       ∙ overlay_more ys 0 (replies m (calls rs i)) r.answer (omega (arith, n, l')) ∙ ap (overlay ys 0) (more_answers i l h e)
 
-  pub buffer_length : (i : ℕ) → i ≤ length rs → i ≤ length ys → length (buffer i) ≡ length ys
-  buffer_length i l l' = overlay_length ys 0 (replies m (calls rs i)) (omega (arith, answered i l))
-
 counted : (t u : Bool) (n room : ℕ) → u ≡ ltb room n
     → (cond (eqb (cond (not t) 20 (cond u 31 0)) 0) n 0 ≤ n) × (cond (eqb (cond (not t) 20 (cond u 31 0)) 0) n 0 ≤ room)
     × (0 < cond (eqb (cond (not t) 20 (cond u 31 0)) 0) n 0 → t ≡ true)

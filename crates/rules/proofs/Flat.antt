@@ -6,7 +6,6 @@ use native.Mathlib.Omega.{arith}
 use native.Mathlib.Decide.{ℕ_discrete}
 use mathlib.Core.List.{List}
 use lib.ListN.{length, get_or, length-set}
-use lib.ListN as ListN
 use lib.Seq.{get_or-set_same, get_or-set_other}
 use Rattle.rules.specs.Record.{level_at, fill_from}
 

@@ -1,7 +1,7 @@
 -- What the history's views say is what 01's words for the history say. Assumes nothing.
 use mathlib.Core.Path.{◌≡◌, refl, ap}
 use mathlib.Core.Logic.{◌≢◌}
-use Prim.Native.Nat.{ℕ, ◌+◌}
+use Prim.Native.Nat.{ℕ}
 use native.Mathlib.Omega.{arith}
 use mathlib.Core.List.{List, [], ◌∷◌, ◌++◌}
 use lib.Dec.{eqb}
@@ -10,7 +10,7 @@ use Rattle.plant.specs.declared.Plant.{Plant}
 use Rattle.choice.specs.Choice.{unset}
 use Rattle.plant.specs.Checks.{Fits}
 use Rattle.rules.specs.Rules.{Call, set, start, stop, gate, unknown}
-use Rattle.rules.specs.History.{idle, since, last_start, started_task, history_view}
+use Rattle.rules.specs.History.{since, last_start, started_task, history_view}
 use Rattle.rules.specs.Rights.{Unstopped, Runs}
 use Rattle.base.proofs.Logic.{split}
 use Rattle.rules.proofs.Kept.{AllAccepted, accepted_after}
