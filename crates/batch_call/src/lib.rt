@@ -19,21 +19,21 @@ fn write_outcome(p: Plant, requests: &[u8], n: usize, out: &mut [u8])
     requires in_range { (n * 5 ≤ length requests.now) × (n + 577 ≤ length out.old) }
     ensures { out.new ≡ overlay out.old 0 (outcome p (calls_of requests.now n)) }
 {
-    let parts = serve(p, requests, n, out);
+    let m = serve(p, requests, n, out);
     let counts = PlantCounts {
-        lattices: p.lattices,
-        requirements: p.requirements,
-        groups: p.groups,
-        tanks: p.tanks,
-        tasks: p.tasks,
-        skids: p.skids,
+        lattices: m.plant.lattices,
+        requirements: m.plant.requirements,
+        groups: m.plant.groups,
+        tanks: m.plant.tanks,
+        tasks: m.plant.tasks,
+        skids: m.plant.skids,
     };
     write_held(
         counts,
-        &p.tank_group,
-        &p.task_rights,
-        &parts.running,
-        &parts.chosen,
+        &m.plant.tank_group,
+        &m.plant.task_rights,
+        &m.running,
+        &m.chosen,
         &mut out[n..],
     );
 }

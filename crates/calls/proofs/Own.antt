@@ -1,11 +1,11 @@
--- A record that passes test 20 has its own parts: what each call reads of the record whose parts are lent to it. Assumes nothing.
+-- A record that passes test 20 has its own parts: what a call reads of them. Assumes nothing.
 use mathlib.Core.Path.{◌≡◌, refl}
 use Prim.Native.Nat.{ℕ, ◌<◌}
 use mathlib.Core.Bool.{true}
 use mathlib.Core.List.{List}
 use Rattle.rules.specs.declared.Monitor.{Monitor}
 use Rattle.rules.specs.Record.{intact}
-use Rattle.calls.specs.Lent.{plant_counts, Passed, StopReads}
+use Rattle.calls.specs.Lent.{plant_counts, Passed, StopReads, GateReads}
 use Rattle.calls.specs.Start.{EarlyReads, WishReads, SearchReads, Looked, StoreReads}
 
 module _ (m : Monitor) (i : intact m.plant m ≡ true) where
@@ -14,6 +14,9 @@ module _ (m : Monitor) (i : intact m.plant m ≡ true) where
 
   pub own_stop : StopReads (plant_counts m.plant) m.running m.chosen m
   own_stop = record { passed = own_passed; running_is = refl; chosen_is = refl }
+
+  pub own_gate : GateReads (plant_counts m.plant) m.plant.tank_group m.plant.task_rights m.running m.chosen m
+  own_gate = record { passed = own_passed; group_is = refl; rights_are = refl; running_is = refl; chosen_is = refl }
 
   pub own_early : EarlyReads (plant_counts m.plant) m.plant.skid_tasks m.running m
   own_early = record { passed = own_passed; may_is = refl; running_is = refl }

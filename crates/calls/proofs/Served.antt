@@ -89,13 +89,13 @@ module _ (P : Plant) (q : plant_refusal true true P ≡ 0) where
         ∙ ap (overlay out₀ 0) (sym (ap (runs (fresh P)) (calls_more bytes i) ∙ runs_more (calls_of bytes i) (fresh P) (call_at bytes i)))
 
 -- what the loop knows before request i: the record and the answers so far are the run's, and what is kept beside the record is kept
-pub record Serving (P : Plant) (bytes : List ℕ) (n : ℕ) (out₀ : List ℕ) (out levels running chosen made needs granted : List ℕ) (i : ℕ) : Type 0 where
+pub record Serving (P : Plant) (bytes : List ℕ) (n : ℕ) (out₀ : List ℕ) (out : List ℕ) (m : Monitor) (made needs granted : List ℕ) (i : ℕ) : Type 0 where
   pub at_most : i ≤ n
   pub size : length out ≡ length out₀
-  pub state : record_of P levels running chosen ≡ ends (fresh P) (calls_of bytes i)
+  pub state : m ≡ ends (fresh P) (calls_of bytes i)
   pub answers : out ≡ overlay out₀ 0 (runs (fresh P) (calls_of bytes i))
-  pub tables : Tables P made needs
-  pub grants : Granted P running granted
+  pub tables : Tables m.plant made needs
+  pub grants : Granted m.plant m.running granted
 
 -- before the first request
 pub first_record : (P : Plant) (bytes : List ℕ) → record_of P (replicate 1024 255) (replicate 8 255) (replicate 64 255) ≡ ends (fresh P) (calls_of bytes 0)

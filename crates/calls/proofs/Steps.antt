@@ -16,7 +16,7 @@ use Rattle.plant.specs.Valid.{Valid}
 use Rattle.plant.specs.Right.{rights, valid_right, has_right}
 use Rattle.choice.specs.Choice.{unset}
 use Rattle.rules.specs.declared.Monitor.{Monitor}
-use Rattle.rules.specs.Rules.{Call, set, stop, gate, unknown, skid_of, View, holds, conditions, refusal, accepted_answer, answer}
+use Rattle.rules.specs.Rules.{Call, set, start, stop, gate, unknown, skid_of, View, holds, conditions, refusal, accepted_answer, answer}
 use Rattle.rules.specs.Record.{view_of, intact, level_at, chosen_at, fill_from, changed, stepped, with_levels, with_task}
 use Rattle.rules.proofs.Accepted.{gate_ok}
 use Rattle.calls.specs.declared.PlantCounts.{PlantCounts}
@@ -35,6 +35,19 @@ does m c z e l = record {
   answers = e ∙ sym (split (eqb (refusal m.plant (view_of m.plant m) c) 0) (λ h. rw h (z ∙ sym (eqb-true _ _ h))) (λ h. rw h));
   leaves = l ∙ rw e;
 }
+
+-- no call changes the plant
+changed_plant : (m : Monitor) (c : Call) → (changed m.plant m c).plant ≡ m.plant
+unfolding changed
+changed_plant m (set s t d v) = refl
+changed_plant m (start s t) = refl
+changed_plant m (stop s) = refl
+changed_plant m (gate s o r) = refl
+changed_plant m unknown = refl
+
+pub plant_kept : {m : Monitor} {c : Call} {r : ℕ} {left : Monitor} → Does m c r left → m.plant ≡ left.plant
+unfolding stepped
+plant_kept {m} {c} d = sym (ap (λ (x : Monitor). x.plant) d.leaves ∙ split (eqb (refusal m.plant (view_of m.plant m) c) 0) (λ h. rw h (changed_plant m c)) (λ h. rw h))
 
 -- the counts of such a record
 module _ {n : PlantCounts} {m : Monitor} (p : Passed n m) where

@@ -1,5 +1,4 @@
--- The plant and the record of which parts are lent to a function, and what a call then promises. Only arrays and numbers can be lent, never a record,
--- so a contract puts the record together here and speaks of it as the rules do.
+-- What a call on a record promises, and what is read of a record by a function to which only a few of its arrays and numbers are lent.
 use Rattle.std.specs.Prelude.{◌≡◌, ℕ, ◌<◌, true, cond, List, eqb, get_or}
 use Rattle.plant.specs.declared.Plant.{Plant}
 use Rattle.rules.specs.declared.Monitor.{Monitor}
@@ -12,26 +11,6 @@ use Rattle.calls.specs.Kept.{Granted}
 -- the counts of a plant, as they go from function to function
 abbrev pub plant_counts : Plant → PlantCounts
 plant_counts P = record { lattices = P.lattices; requirements = P.requirements; groups = P.groups; tanks = P.tanks; tasks = P.tasks; skids = P.skids }
-
--- the plant whose counts and arrays these are, in the order of its fields
-abbrev pub lent_plant : PlantCounts → List ℕ → List ℕ → List ℕ → List ℕ → List ℕ → List ℕ → List ℕ → List ℕ → List ℕ → Plant
-lent_plant n sizes sets lattice requirement group level names rights may = record {
-  lattices = n.lattices;
-  requirements = n.requirements;
-  groups = n.groups;
-  tanks = n.tanks;
-  tasks = n.tasks;
-  skids = n.skids;
-  lattice_sizes = sizes;
-  lattice_sets = sets;
-  requirement_lattice = lattice;
-  group_requirement = requirement;
-  tank_group = group;
-  tank_level = level;
-  task_requirements = names;
-  task_rights = rights;
-  skid_tasks = may;
-}
 
 -- A request: the kind and four bytes in the order of the call's arguments, unused ones ignored.
 abbrev pub call_by : ℕ → ℕ → ℕ → ℕ → ℕ → Call

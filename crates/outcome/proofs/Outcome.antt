@@ -13,13 +13,12 @@ use Rattle.plant.specs.Checks.{plant_refusal, Sound}
 use Rattle.plant.proofs.Sound.{sound_law}
 use Rattle.rules.specs.declared.Monitor.{Monitor}
 use Rattle.rules.specs.Rules.{Call, View}
-use Rattle.rules.specs.Record.{fresh, view_of, final, record_of}
+use Rattle.rules.specs.Record.{fresh, view_of, final}
 use Rattle.rules.specs.Run.{runs, ends}
 use Rattle.rules.specs.History.{history_view, history_answers, history}
 use Rattle.rules.proofs.Agree.{fresh_agree, list_agree, list_replies}
-use Rattle.calls.specs.Lent.{plant_counts, GateReads}
 use Rattle.calls.specs.RequestBytes.{calls_of}
-use Rattle.calls.proofs.Served.{once, still_intact, runs_length, calls_length}
+use Rattle.calls.proofs.Served.{once, runs_length, calls_length}
 use Rattle.listing.specs.Held.{HeldRight, rights_held, listing}
 use Rattle.listing.specs.Parts.{held_rights}
 use Rattle.outcome.specs.Batch.{outcome}
@@ -43,18 +42,14 @@ module _ (P : Plant) (q : plant_refusal true true P ≡ 0) (cs : List Call) wher
       ap₂ (λ (l : List ℕ) (vs : ℕ → View). l ++ listing (rights_held P vs)) same_answers (ap (view_of P) (e ∙ sym (once P q cs).same_record))
       ∙ ap (λ (l : List HeldRight). history_answers P [] cs ++ listing l) same_rights
 
--- n requests were served, and these are the changing parts after them
-module _ (P : Plant) (q : plant_refusal true true P ≡ 0) (bytes : List ℕ) (n : ℕ) {levels running chosen : List ℕ}
-    (e : record_of P levels running chosen ≡ ends (fresh P) (calls_of bytes n)) where
+-- n requests were served, and this is the record after them
+module _ (P : Plant) (q : plant_refusal true true P ≡ 0) (bytes : List ℕ) (n : ℕ) {m : Monitor} (e : m ≡ ends (fresh P) (calls_of bytes n)) where
   abbrev cs : List Call
   cs = calls_of bytes n
 
-  abbrev m : Monitor
-  m = record_of P levels running chosen
-
-  -- what the writer of the list reads
-  pub parts_read : GateReads (plant_counts P) P.tank_group P.task_rights running chosen m
-  parts_read = record { passed = record { passes = still_intact P q bytes n e; counts = refl }; group_is = refl; rights_are = refl; running_is = refl; chosen_is = refl }
+  own_plant : m.plant ≡ P
+  unfolding fresh
+  own_plant = ap (λ (x : Monitor). x.plant) e ∙ (once P q cs).same_plant
 
   answered : length (runs (fresh P) cs) ≡ n
   answered = runs_length cs (fresh P) ∙ calls_length bytes n
@@ -75,4 +70,4 @@ module _ (P : Plant) (q : plant_refusal true true P ≡ 0) (bytes : List ℕ) (n
         let at : 0 + length answers ≡ n = omega (arith, answered) in
         overlay_part out₁ n ws ys (omega (arith, as_long)) w
         ∙ ap₂ (λ (l : List ℕ) (k : ℕ). overlay l k ws) h (sym at) ∙ overlay_append out 0 answers ws (omega (arith, answered))
-        ∙ ap (overlay out 0) (outcome_is P q cs m e)
+        ∙ ap (overlay out 0) (ap (λ (p : Plant). answers ++ listing (rights_held p (view_of p m))) own_plant ∙ outcome_is P q cs m e)

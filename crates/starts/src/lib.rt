@@ -3,16 +3,16 @@
 
 ghost use Rattle.std.specs.Prelude.{◌≡◌, true};
 ghost use Rattle.base.specs.Chain.{first};
-ghost use Rattle.rules.specs.declared.Monitor.{Monitor};
 ghost use Rattle.rules.specs.Rules.{start};
-ghost use Rattle.rules.specs.Record.{record_of, with_task, intact};
+ghost use Rattle.rules.specs.Record.{with_task, intact};
 ghost use Rattle.calls.specs.Kept.{Needed, Tables};
-ghost use Rattle.calls.specs.Lent.{lent_plant, Does};
+ghost use Rattle.calls.specs.Lent.{Does};
 ghost use Rattle.calls.specs.Start.{EarlyReads, early_tests, StoreReads, LateDone};
 
 use calls::PlantCounts;
 use choices::make_choices;
 use chosen::{choose_row, need_once};
+use rules::Monitor;
 use steps::put_row;
 
 // Start up to 26, before any group is looked at.
@@ -70,48 +70,43 @@ pub fn start_late<'a>(
 }
 
 // Start in a list, which keeps the table of choices and the groups of its tasks.
-pub fn start_at<'a>(
-    counts: PlantCounts,
-    sizes: &'a [u8; 8],
-    sets: &'a [u16; 128],
-    lattice: &'a [u8; 8],
-    requirement: &'a [u8; 8],
-    group: &'a [u8; 64],
-    level: &'a [u8; 64],
-    names: &'a [u8; 16],
-    rights: &'a [u8; 128],
-    may: &'a [u16; 8],
-    levels: &[u8; 1024],
-    running: &mut [u8; 8],
-    chosen: &mut [u8; 64],
-    made: &mut [u8; 128],
-    needs: &mut [u16; 16],
-    s: u8,
-    t: u8,
-) -> u8
-    ghost m: { Monitor }
-    requires lent { record_of (lent_plant counts sizes.now sets.now lattice.now requirement.now group.now level.now names.now
-        rights.now may.now) levels.now running.old chosen.old ≡ m }
-    requires passes_test_20 { intact m.plant m ≡ true }
-    requires tables { Tables m.plant made.old needs.old }
-    ensures does { Does m (start s t) result (with_task m running.new chosen.new) }
-    ensures tables { Tables m.plant made.new needs.new }
+pub fn start_at(m: &mut Monitor, made: &mut [u8; 128], needs: &mut [u16; 16], s: u8, t: u8) -> u8
+    requires passes_test_20 { intact m.old.plant m.old ≡ true }
+    requires tables { Tables m.old.plant made.old needs.old }
+    ensures does { Does m.old (start s t) result m.new }
+    ensures tables { Tables m.old.plant made.new needs.new }
 {
-    let early = start_early(counts, may, running, s, t);
+    let counts = PlantCounts {
+        lattices: m.plant.lattices,
+        requirements: m.plant.requirements,
+        groups: m.plant.groups,
+        tanks: m.plant.tanks,
+        tasks: m.plant.tasks,
+        skids: m.plant.skids,
+    };
+    let early = start_early(counts, &m.plant.skid_tasks, &m.running, s, t);
     if early != 0 {
         return early;
     }
-    let groups = counts.groups;
     make_choices(
-        sets,
-        group,
-        level,
-        lattice,
-        requirement,
+        &m.plant.lattice_sets,
+        &m.plant.tank_group,
+        &m.plant.tank_level,
+        &m.plant.requirement_lattice,
+        &m.plant.group_requirement,
         made,
-        groups,
+        counts.groups,
         counts.tanks,
     );
-    let need = need_once(rights, needs, t as usize, groups);
-    start_late(requirement, levels, made, running, chosen, s, t, need)
+    let need = need_once(&m.plant.task_rights, needs, t as usize, counts.groups);
+    start_late(
+        &m.plant.group_requirement,
+        &m.levels,
+        made,
+        &mut m.running,
+        &mut m.chosen,
+        s,
+        t,
+        need,
+    )
 }

@@ -1,4 +1,4 @@
--- The early tests, and the row and its number, are the rules', of the record whose parts are lent.
+-- The early tests, and the row and its number, are the rules'.
 use Rattle.std.proofs.Common.{refl}
 use native.Mathlib.Nat.{lt_of_lt_of_le}
 use Rattle.calls.proofs.Ready.{plant_valid, links_there, groups_counted, levels_there}
@@ -9,55 +9,55 @@ use Rattle.calls.proofs.Start.{passed, refused_early, done_late}
 use Rattle.starts.proofs.start_at.Goals as goal
 
 pub returns-then-early-ne0-clause-does : goal.returns-then-early-ne0-clause-does
-returns-then-early-ne0-clause-does g c =
-    let i = rw (← c.requires.0) at c.requires.1.0 in
-    rw (← c.requires.0) (refused_early _ c.args.s c.args.t (c.start_early-early.ensures _ (own_early _ i)) c.if-early-ne0.true)
+returns-then-early-ne0-clause-does c =
+    let i = c.requires.passes_test_20 in
+    refused_early _ c.args.s c.args.t (c.start_early-early.ensures _ (own_early _ i)) c.if-early-ne0.true
 
 pub make_choices-requires-clause-counts_in : goal.make_choices-requires-clause-counts_in
-make_choices-requires-clause-counts_in g c =
-    let i = rw (← c.requires.0) at c.requires.1.0 in
+make_choices-requires-clause-counts_in c =
+    let i = c.requires.passes_test_20 in
     let f = (plant_valid _ i).counts in
     (f.groups_fit, f.tanks_fit)
 
 pub make_choices-requires-clause-links_in : goal.make_choices-requires-clause-links_in
-make_choices-requires-clause-links_in g c = let i = rw (← c.requires.0) at c.requires.1.0 in links_there _ i
+make_choices-requires-clause-links_in c = links_there _ c.requires.passes_test_20
 
 pub make_choices-requires-clause-groups_in : goal.make_choices-requires-clause-groups_in
-make_choices-requires-clause-groups_in g c = let i = rw (← c.requires.0) at c.requires.1.0 in groups_counted _ i
+make_choices-requires-clause-groups_in c = groups_counted _ c.requires.passes_test_20
 
 pub make_choices-requires-clause-levels_in : goal.make_choices-requires-clause-levels_in
-make_choices-requires-clause-levels_in g c = let i = rw (← c.requires.0) at c.requires.1.0 in levels_there _ i
+make_choices-requires-clause-levels_in c = levels_there _ c.requires.passes_test_20
 
 pub need_once-need-requires : goal.need_once-need-requires
-need_once-need-requires g c =
-    let i = rw (← c.requires.0) at c.requires.1.0 in
+need_once-need-requires c =
+    let i = c.requires.passes_test_20 in
     let f = (plant_valid _ i).counts in
     let there = passed _ c.args.s c.args.t (c.start_early-early.ensures _ (own_early _ i)) c.if-early-ne0.false in
     (lt_of_lt_of_le there.1 f.tasks_fit, f.groups_fit)
 
 pub start_late-requires : goal.start_late-requires
-start_late-requires g c =
-    let i = rw (← c.requires.0) at c.requires.1.0 in
+start_late-requires c =
+    let i = c.requires.passes_test_20 in
     let there = passed _ c.args.s c.args.t (c.start_early-early.ensures _ (own_early _ i)) c.if-early-ne0.false in
-    let t = (rw (← c.requires.0) at c.requires.1.1).tasks in (
+    let t = c.requires.tables.tasks in (
       _,
       (
         own_store _ i c.args.s c.args.t there (table_looked (own_wishes _ i c.args.s c.args.t there) c.make_choices.ensures),
-        (c.need_once-need.ensures _ (record { rights_are = refl; groups_are = refl }) t).0,
+        (c.need_once-need.ensures c.args.m.now.plant (record { rights_are = refl; groups_are = refl }) t).0,
       ),
     )
 
 pub returns-clause-does : goal.returns-clause-does
-returns-clause-does g c =
-    let i = rw (← c.requires.0) at c.requires.1.0 in
+returns-clause-does c =
+    let i = c.requires.passes_test_20 in
     let e = c.start_early-early.ensures _ (own_early _ i) in
     let there = passed _ c.args.s c.args.t e c.if-early-ne0.false in
-    let t = (rw (← c.requires.0) at c.requires.1.1).tasks in
-    rw (← c.requires.0) (done_late _ c.args.s c.args.t e c.if-early-ne0.false (c.start_late.ensures _
+    let t = c.requires.tables.tasks in
+    done_late _ c.args.s c.args.t e c.if-early-ne0.false (c.start_late.ensures _
     (own_store _ i c.args.s c.args.t there (table_looked (own_wishes _ i c.args.s c.args.t there) c.make_choices.ensures))
-    (c.need_once-need.ensures _ (record { rights_are = refl; groups_are = refl }) t).0))
+    (c.need_once-need.ensures c.args.m.now.plant (record { rights_are = refl; groups_are = refl }) t).0)
 
 pub returns-clause-tables : goal.returns-clause-tables
-returns-clause-tables g c =
-    let t = (rw (← c.requires.0) at c.requires.1.1).tasks in
-    rw (← c.requires.0) (all_made c.make_choices.ensures (c.need_once-need.ensures _ (record { rights_are = refl; groups_are = refl }) t).1)
+returns-clause-tables c =
+    let t = c.requires.tables.tasks in
+    all_made c.make_choices.ensures (c.need_once-need.ensures c.args.m.now.plant (record { rights_are = refl; groups_are = refl }) t).1
