@@ -1,7 +1,6 @@
 -- What the program prints, as bytes: words, lines, and the lines of a batch's outcome.
 use Rattle.std.specs.Prelude.{ℕ, ◌+◌, ◌*◌, cond, List, [], ◌∷◌, ◌++◌, eqb, drop}
 use Prim.Native.String.{String}
-use Prim.Native.String as String
 use Prim.Native.Char.{code}
 use Rattle.base.specs.Collect.{collect}
 use Rattle.layout.specs.Layout.{byte_at}

@@ -4,6 +4,7 @@ use mathlib.Core.List.{List, [], ◌∷◌, ◌++◌}
 use Rattle.rules.specs.declared.Monitor.{Monitor}
 use Rattle.rules.specs.Rules.{Call}
 use Rattle.rules.specs.Record.{after, reply, replies, final}
+use Rattle.rules.specs.Run.{InParts}
 
 final_append : (cs ds : List Call) (m : Monitor) → final m (cs ++ ds) ≡ final (final m cs) ds
 unfolding final
@@ -14,6 +15,9 @@ replies_append : (cs ds : List Call) (m : Monitor) → replies m (cs ++ ds) ≡ 
 unfolding replies final
 replies_append [] ds m = refl
 replies_append (x ∷ cs) ds m = ap (λ l. reply m.plant m x ∷ l) (replies_append cs ds (after m.plant m x))
+
+pub in_parts : (m : Monitor) (cs ds : List Call) → InParts m cs ds
+in_parts m cs ds = record { same_answers = replies_append cs ds m; same_record = final_append cs ds m }
 
 pub final_snoc : (cs : List Call) (m : Monitor) (c : Call) → final m (cs ++ (c ∷ [])) ≡ after (final m cs).plant (final m cs) c
 unfolding final
