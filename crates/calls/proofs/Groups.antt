@@ -10,7 +10,7 @@ use mathlib.Core.List.{List, [], ◌∷◌}
 use lib.Count.{count_trailing_zeros}
 use lib.Dec.{eqb}
 use lib.ListN.{length, get_or, set, replicate, length-replicate, get_or-replicate, length-set}
-use lib.Seq.{get_or-set_same, get_or-set_other}
+use lib.Seq.{get_or-set_same, get_or-set_other, ext_get_or}
 use borrow.Author.Tests.{eqb-true, eqb-false, eq-eqb}
 use Rattle.base.specs.Below.{any_below}
 use Rattle.base.specs.Bits.{bit}
@@ -20,6 +20,8 @@ use Rattle.base.proofs.Below.{any_yes, any_none, any_same}
 use Rattle.base.proofs.Bits.{zero_bit}
 use Rattle.base.proofs.Shared.{within_lt}
 use Rattle.base.proofs.Members.{lowest_in, without_less}
+use Rattle.base.proofs.Filled.{fill_at, fill_length}
+use Rattle.calls.specs.Work.{wish_in, found_in, pick_in, row_in, GroupDone, RowDone}
 
 -- a is that a level is unset, b that there is no tank
 abbrev number_of : Bool → Bool → ℕ
@@ -155,3 +157,29 @@ module _ {p q : ℕ → Bool} {tank : ℕ → ℕ} {need rest number : ℕ} {row
           (λ j m. split (eqb g j)
           (λ z. rw (← eqb-true g j z, own) (and-false (seen need rest g) ∙ sym (and-false (seen need left g))))
           (λ z. rw (seen_other j z)))))
+
+-- what is looked up in arrays: a level that is unset, a level for which nothing is found, and what is found
+module _ (found : ℕ → ℕ → ℕ) (requirement levels : List ℕ) (s t : ℕ) where
+  abbrev pub unset_in : ℕ → Bool
+  unset_in g = eqb (wish_in requirement levels s t g) 255
+
+  abbrev pub none_in : ℕ → Bool
+  none_in g = eqb (found_in found requirement levels s t g) 255
+
+  abbrev pub FoundSoFar : ℕ → ℕ → ℕ → List ℕ → Type 0
+  FoundSoFar = RowSoFar unset_in none_in (found_in found requirement levels s t)
+
+  pub one_done : {g : ℕ} {row : List ℕ} {n : ℕ} {row' : List ℕ} → GroupDone found requirement levels s t g row n row' → OneDone unset_in none_in (found_in found requirement levels s t) g row n row'
+  one_done d = record { answers = d.answers; chooses = d.chooses }
+
+  -- the row of the set: a list of eight is what stands at its places
+  pub row_done : (need : ℕ) {number : ℕ} {row : List ℕ} → (number ≡ 0 → length row ≡ 8) → SetDone unset_in none_in (found_in found requirement levels s t) need number row
+      → RowDone found requirement levels s t (bit need) 8 number row
+  row_done need {row = row} e d = record {
+    answers = d.answers;
+    chooses = λ y. ext_get_or 0 row (row_in found requirement levels s t (bit need) 8)
+        (e y ∙ sym (fill_length _ (replicate 8 255) 8 ∙ length-replicate {A = ℕ} 8 255))
+        (λ g l.
+        let m : g < 8 = omega (arith, l, e y) in
+        d.chooses y g m ∙ sym (fill_at (pick_in found requirement levels s t (bit need)) (replicate 8 255) 8 g 0 (omega (arith, length-replicate {A = ℕ} 8 255)) m));
+  }

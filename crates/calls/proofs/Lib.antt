@@ -1,4 +1,5 @@
 pub mod Rows
+pub mod Known
 pub mod Made
 pub mod There
 pub mod Grants

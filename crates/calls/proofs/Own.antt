@@ -6,7 +6,7 @@ use mathlib.Core.List.{List}
 use Rattle.rules.specs.declared.Monitor.{Monitor}
 use Rattle.rules.specs.Record.{intact}
 use Rattle.calls.specs.Lent.{plant_counts, Passed, StopReads, GateReads}
-use Rattle.calls.specs.Start.{EarlyReads, WishReads, SearchReads, Looked, StoreReads}
+use Rattle.calls.specs.Start.{WishReads, SearchReads, Looked, StoreReads}
 
 module _ (m : Monitor) (i : intact m.plant m ≡ true) where
   own_passed : Passed (plant_counts m.plant) m
@@ -17,9 +17,6 @@ module _ (m : Monitor) (i : intact m.plant m ≡ true) where
 
   pub own_gate : GateReads (plant_counts m.plant) m.plant.tank_group m.plant.task_rights m.running m.chosen m
   own_gate = record { passed = own_passed; group_is = refl; rights_are = refl; running_is = refl; chosen_is = refl }
-
-  pub own_early : EarlyReads (plant_counts m.plant) m.plant.skid_tasks m.running m
-  own_early = record { passed = own_passed; may_is = refl; running_is = refl }
 
   -- for a skid and a task that are there
   module _ (s t : ℕ) (l : (s < m.plant.skids) × (t < m.plant.tasks)) where

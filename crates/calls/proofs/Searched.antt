@@ -20,7 +20,7 @@ use Rattle.choice.specs.Search.{choice_in}
 use Rattle.choice.proofs.Search.{search_choice}
 use Rattle.choice.proofs.Table.{entries_wider}
 use Rattle.rules.specs.declared.Monitor.{Monitor}
-use Rattle.calls.specs.Kept.{Needed}
+use Rattle.calls.specs.Work.{NeedIn}
 use Rattle.calls.specs.Start.{wish_of, WishReads, SearchReads, EntryPut}
 use Rattle.calls.proofs.Groups.{seen}
 use Rattle.calls.proofs.Late.{stored, is_wish, level_fits, group_fits, group_there}
@@ -65,7 +65,7 @@ module _ (m : Monitor) (s t need : ℕ) where
         → get_or made (g * 16 + wish_of m s t (requirement_of m.plant g)) 0 ≡ choice m.plant g (wish_of m s t)
 
 module _ {m : Monitor} {s t need rest : ℕ} {made : List ℕ} (v : LookedSoFar m s t need rest made) where
-  module _ {requirement levels : List ℕ} (W : WishReads requirement levels s t m) (n : Needed m.plant t need) (g left : ℕ) (h : bit rest g ≡ true)
+  module _ {requirement levels : List ℕ} (W : WishReads requirement levels s t m) (n : NeedIn m.plant.task_rights t m.plant.groups need) (g left : ℕ) (h : bit rest g ≡ true)
       (w : (j : ℕ) → bit left j ≡ bit rest j && not (eqb g j)) where
     -- a level that is set is one of sixteen
     low : (j : ℕ) → bit need j ≡ true → wish_of m s t (requirement_of m.plant j) ≢ unset → wish_of m s t (requirement_of m.plant j) < 16

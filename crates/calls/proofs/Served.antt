@@ -19,7 +19,8 @@ use Rattle.rules.specs.Record.{fresh, view_of, intact, stepped, record_of}
 use Rattle.rules.specs.Run.{runs, ends, TestedOnce}
 use Rattle.rules.proofs.Agree.{fresh_agree, intact_true}
 use Rattle.rules.proofs.IntactKept.{tested_once}
-use Rattle.calls.specs.Kept.{Tables, Granted}
+use Rattle.calls.specs.Lent.{Tables}
+use Rattle.calls.specs.Work.{Granted}
 use Rattle.calls.specs.RequestBytes.{call_at, calls_of}
 
 -- one call more at the end of a list
@@ -95,7 +96,7 @@ pub record Serving (P : Plant) (bytes : List ℕ) (n : ℕ) (out₀ : List ℕ) 
   pub state : m ≡ ends (fresh P) (calls_of bytes i)
   pub answers : out ≡ overlay out₀ 0 (runs (fresh P) (calls_of bytes i))
   pub tables : Tables m.plant made needs
-  pub grants : Granted m.plant m.running granted
+  pub grants : Granted m.plant.task_rights m.running m.plant.skids granted
 
 -- before the first request
 pub first_record : (P : Plant) (bytes : List ℕ) → record_of P (replicate 1024 255) (replicate 8 255) (replicate 64 255) ≡ ends (fresh P) (calls_of bytes 0)

@@ -1,7 +1,7 @@
 -- The work of set, stop and gate does what the rules say, on every record that has the parts lent to it. Assumes nothing.
-use mathlib.Core.Path.{◌≡◌, refl, sym, ap, subst, ◌∙◌}
+use mathlib.Core.Path.{◌≡◌, refl, sym, ap, ◌∙◌}
 use mathlib.Core.Logic.{◌≢◌}
-use Prim.Native.Nat.{ℕ, ◌+◌, ◌*◌, ◌≤◌, ◌<◌}
+use Prim.Native.Nat.{ℕ, ◌*◌, ◌≤◌, ◌<◌}
 use native.Mathlib.Omega.{arith}
 use mathlib.Core.Bool.{Bool, true, false, cond, not, ◌&&◌}
 use mathlib.Core.List.{List, [], ◌∷◌}
@@ -11,21 +11,23 @@ use lib.ListN as ListN
 use borrow.Author.Tests.{lt-leb, le-leb, ltb-true, ltb-false, eqb-true, eqb-false, ne_eqb, not-true, not-false}
 use Rattle.base.specs.Chain.{◌gives◌, first}
 use Rattle.base.proofs.Logic.{split}
+use Rattle.base.proofs.Below.{all_at}
 use Rattle.plant.specs.declared.Plant.{Plant}
 use Rattle.plant.specs.Valid.{Valid}
-use Rattle.plant.specs.Right.{rights, valid_right, has_right}
+use Rattle.plant.specs.Right.{rights, valid_right}
 use Rattle.choice.specs.Choice.{unset}
 use Rattle.rules.specs.declared.Monitor.{Monitor}
 use Rattle.rules.specs.Rules.{Call, set, start, stop, gate, unknown, skid_of, View, holds, conditions, refusal, accepted_answer, answer}
-use Rattle.rules.specs.Record.{view_of, intact, level_at, chosen_at, fill_from, changed, stepped, with_levels, with_task}
+use Rattle.rules.specs.Record.{view_of, level_at, fill_from, changed, stepped, with_levels, with_task}
 use Rattle.rules.proofs.Accepted.{gate_ok}
 use Rattle.calls.specs.declared.PlantCounts.{PlantCounts}
-use Rattle.calls.specs.Lent.{plant_counts, Does, Passed, SetReads, StopReads, GateReads, GrantReads, HeldReads, GrantedReads, get_row}
+use Rattle.calls.specs.Work.{task_known, held_in, granted_in, get_row}
+use Rattle.calls.specs.Lent.{plant_counts, Does, Passed, SetReads, StopReads, GateReads, GrantReads}
 use Rattle.calls.proofs.Rows.{row_same}
 use Rattle.calls.proofs.There.{no_right}
 use Rattle.calls.proofs.Views.{held_same}
-use Rattle.calls.proofs.Grants.{granted_same}
-use Rattle.calls.proofs.Ready.{plant_valid, task_there}
+use Rattle.calls.proofs.Grants.{same_held}
+use Rattle.calls.proofs.Ready.{plant_valid, groups_there, tasks_known}
 
 -- a call that answers 0 where it is accepted
 pub does : (m : Monitor) (c : Call) {r : ℕ} {left : Monitor} → accepted_answer m.plant (view_of m.plant m (skid_of c)) c ≡ 0
@@ -151,66 +153,45 @@ module _ {n : PlantCounts} (s o r : ℕ) {there : Bool} (t : (P : Plant) (vs : �
   items : not there ≡ false → (s < n.skids) × (o < n.tanks)
   items h = let k = gate_ok m.plant (view_of m.plant m) s o r (accepted h) in (omega (arith, k.skid, skids_are p), omega (arith, k.tank, tanks_are p))
 
--- of a skid and a tank within the counts the same parts tell whether a right is held
-pub held_reads : {n : PlantCounts} {group rights running chosen : List ℕ} {s o : ℕ} {m : Monitor} → GateReads n group rights running chosen m → s < n.skids → o < n.tanks → HeldReads group rights running chosen s o m
-held_reads {n} {group} {rights} {running} {chosen} {m = m} R a b = record {
-  reads = subst (λ (x : PlantCounts). GateReads x group rights running chosen m) (sym R.passed.counts) R;
-  skid = omega (arith, skids_are R.passed);
-  tank = omega (arith, tanks_are R.passed);
-}
-
--- a gate whose items are there answers by them: `held` says whether they tell so
+-- a gate whose items are there answers by what is lent: what is_held and is_granted ask for, and that they tell what the rules say
 module _ {n : PlantCounts} (s o r : ℕ) {there : Bool} (t : (P : Plant) (vs : ℕ → View) → plant_counts P ≡ n → there ≡ eqb (refusal P vs (gate s o r)) 0) (h : not there ≡ false) where
-  module _ {group rights running chosen : List ℕ} where
-    pub gate_reads : {m : Monitor} → GateReads n group rights running chosen m → HeldReads group rights running chosen s o m
-    gate_reads R = let k = items s o r t R.passed h in held_reads R k.0 k.1
+  places : {group : List ℕ} {m : Monitor} → Passed n m → m.plant.tank_group ≡ group → ((s < 8) × (o < 64)) × (get_or group o 0 < 8)
+  places {m = m} p e =
+      let k = items s o r t p h in
+      let w = plant_valid m p.passes in
+      ((omega (arith, k.0, skids_fit p), omega (arith, k.1, tanks_fit p)), rw (← e) (omega (arith, w.group_in o (omega (arith, k.1, tanks_are p)), w.counts.groups_fit)))
 
-    pub gate_by_record : {held : Bool} {x : ℕ} → ((m : Monitor) → HeldReads group rights running chosen s o m → held ≡ holds m.plant (view_of m.plant m s) o r)
-        → x ≡ cond (not held) 33 0 → (m : Monitor) → GateReads n group rights running chosen m → Does m (gate s o r) x m
-    gate_by_record e k m R = gate_answers s o r t R.passed h (e m (gate_reads R)) k
+  module _ {group rights running chosen : List ℕ} where
+    pub held_requires : (m : Monitor) × GateReads n group rights running chosen m → ((s < 8) × (o < 64)) × ((get_or group o 0 < 8) × (task_known running s ≡ true))
+    held_requires x =
+        let R = x.1 in
+        let k = places R.passed R.group_is in
+        (k.0, (k.1, rw (← R.running_is) (all_at x.0.plant.skids (task_known x.0.running) (tasks_known x.0 R.passed.passes) s (omega (arith, (items s o r t R.passed h).0, skids_are R.passed)))))
+
+    held_told : {m : Monitor} → GateReads n group rights running chosen m → held_in group rights running chosen s o r ≡ holds m.plant (view_of m.plant m s) o r
+    held_told {m} R =
+        let k = items s o r t R.passed h in
+        rw (← R.group_is, ← R.rights_are, ← R.running_is, ← R.chosen_is)
+        (held_same m R.passed.passes s o r (omega (arith, k.0, skids_are R.passed)) (omega (arith, k.1, tanks_are R.passed)))
+
+    pub gate_by_record : {held : Bool} {x : ℕ} → held ≡ held_in group rights running chosen s o r → x ≡ cond (not held) 33 0 → (m : Monitor) → GateReads n group rights running chosen m → Does m (gate s o r) x m
+    gate_by_record e k m R = gate_answers s o r t R.passed h (e ∙ held_told R) k
 
   module _ {group granted chosen : List ℕ} where
-    pub grant_reads : {m : Monitor} → GrantReads n group granted chosen m → GrantedReads group granted chosen s o m
-    grant_reads {m} R =
+    pub granted_requires : (m : Monitor) × GrantReads n group granted chosen m → ((s < 8) × (o < 64)) × (get_or group o 0 < 8)
+    granted_requires x = places x.1.passed x.1.group_is
+
+    granted_told : {m : Monitor} → GrantReads n group granted chosen m → granted_in group granted chosen s o r ≡ holds m.plant (view_of m.plant m s) o r
+    granted_told {m} R =
         let k = items s o r t R.passed h in
-        record {
-          reads = subst (λ (x : PlantCounts). GrantReads x group granted chosen m) (sym R.passed.counts) R;
-          skid = omega (arith, k.0, skids_are R.passed);
-          tank = omega (arith, k.1, tanks_are R.passed);
-        }
+        let a : s < m.plant.skids = omega (arith, k.0, skids_are R.passed) in
+        let b : o < m.plant.tanks = omega (arith, k.1, tanks_are R.passed) in
+        rw (← R.group_is, ← R.chosen_is)
+        (same_held m.plant.tank_group m.plant.task_rights m.running m.chosen m.plant.tanks R.grants (groups_there m R.passed.passes) s o r a b
+        ∙ held_same m R.passed.passes s o r a b)
 
-    pub gate_by_grants : {held : Bool} {x : ℕ} → ((m : Monitor) → GrantedReads group granted chosen s o m → held ≡ holds m.plant (view_of m.plant m s) o r)
-        → x ≡ cond (not held) 33 0 → (m : Monitor) → GrantReads n group granted chosen m → Does m (gate s o r) x m
-    gate_by_grants e k m R = gate_answers s o r t R.passed h (e m (grant_reads R)) k
-
--- Whether a right is held: skid, tank and group have their places in the parts, and what these say there is what the rules say.
-pub record Places (group : List ℕ) (s o : ℕ) : Type 0 where
-  pub skid_place : s < 8
-  pub tank_place : o < 64
-  pub group_place : get_or group o 0 < 8
-
-places : {group : List ℕ} {s o : ℕ} (m : Monitor) → intact m.plant m ≡ true → m.plant.tank_group ≡ group → s < m.plant.skids → o < m.plant.tanks → Places group s o
-places {o = o} m i e a b =
-    let w = plant_valid m i in
-    record { skid_place = omega (arith, w.counts.skids_fit); tank_place = omega (arith, w.counts.tanks_fit); group_place = rw (← e) (omega (arith, w.group_in o b, w.counts.groups_fit)) }
-
-module _ {group rights running chosen : List ℕ} {s o : ℕ} {m : Monitor} (R : HeldReads group rights running chosen s o m) where
-  pub held_places : Places group s o
-  held_places = places m R.reads.passed.passes R.reads.group_is R.skid R.tank
-
-  pub held_task : get_or running s 0 ≢ 255 → get_or running s 0 < 16
-  held_task = rw (← R.reads.running_is) (task_there m R.reads.passed.passes s R.skid)
-
-  pub held_told : (r : ℕ) {x : Bool} → x ≡ not (eqb (get_or running s 0) 255) && (has_right (get_or rights (get_or running s 0 * 8 + get_or group o 0) 0) r && eqb (get_or chosen (chosen_at s (get_or group o 0)) 0) o)
-      → x ≡ holds m.plant (view_of m.plant m s) o r
-  held_told r e = e ∙ rw (← R.reads.group_is, ← R.reads.rights_are, ← R.reads.running_is, ← R.reads.chosen_is) (held_same m R.reads.passed.passes s o r R.skid R.tank)
-
-module _ {group granted chosen : List ℕ} {s o : ℕ} {m : Monitor} (R : GrantedReads group granted chosen s o m) where
-  pub granted_places : Places group s o
-  granted_places = places m R.reads.passed.passes R.reads.group_is R.skid R.tank
-
-  pub granted_told : (r : ℕ) {x : Bool} → x ≡ eqb (get_or chosen (chosen_at s (get_or group o 0)) 0) o && has_right (get_or granted (chosen_at s (get_or group o 0)) 0) r → x ≡ holds m.plant (view_of m.plant m s) o r
-  granted_told r e = e ∙ rw (← R.reads.group_is, ← R.reads.chosen_is) (granted_same m R.reads.passed.passes R.reads.grants s o r R.skid R.tank)
+    pub gate_by_grants : {held : Bool} {x : ℕ} → held ≡ granted_in group granted chosen s o r → x ≡ cond (not held) 33 0 → (m : Monitor) → GrantReads n group granted chosen m → Does m (gate s o r) x m
+    gate_by_grants e k m R = gate_answers s o r t R.passed h (e ∙ granted_told R) k
 
 -- a request of no known kind
 pub unknown_does : (m : Monitor) → Does m unknown 32 m

@@ -1,17 +1,16 @@
 -- Within the counts, what a record that passes test 20 says of a skid is what its arrays hold. Assumes nothing.
 use mathlib.Core.Path.{◌≡◌}
 use Prim.Native.Nat.{ℕ, ◌<◌}
-use mathlib.Core.Bool.{true, not, ◌&&◌}
-use lib.Dec.{eqb}
+use mathlib.Core.Bool.{true}
 use lib.ListN.{get_or}
 use borrow.Author.Tests.{lt-ltb}
 use Rattle.plant.specs.declared.Plant.{Plant}
-use Rattle.plant.specs.Plant.{requirement_of, group_of, names_right}
+use Rattle.plant.specs.Plant.{requirement_of, group_of}
 use Rattle.plant.specs.Valid.{Valid}
-use Rattle.choice.specs.Choice.{unset}
 use Rattle.rules.specs.declared.Monitor.{Monitor}
 use Rattle.rules.specs.Rules.{View, holds}
 use Rattle.rules.specs.Record.{view_of, level_at, chosen_at, intact}
+use Rattle.calls.specs.Work.{held_in}
 use Rattle.calls.proofs.Ready.{plant_valid}
 
 module _ (m : Monitor) (i : intact m.plant m ≡ true) where
@@ -37,7 +36,6 @@ module _ (m : Monitor) (i : intact m.plant m ≡ true) where
   chosen_is s g a b = rw (lt-ltb s P.skids a, lt-ltb g P.groups b)
 
   -- what the arrays say of a right held is what the view says
-  pub held_same : (s o r : ℕ) → s < P.skids → o < P.tanks
-      → not (eqb (get_or m.running s 0) unset) && (names_right P (get_or m.running s 0) r (group_of P o) && eqb (get_or m.chosen (chosen_at s (group_of P o)) 0) o) ≡ holds P (vs s) o r
+  pub held_same : (s o r : ℕ) → s < P.skids → o < P.tanks → held_in P.tank_group P.task_rights m.running m.chosen s o r ≡ holds P (vs s) o r
   unfolding holds
   held_same s o r a b = rw (running_is s a, chosen_is s (group_of P o) a (X.group_in o b))

@@ -1,12 +1,13 @@
 -- What a call on a record promises, and what is read of a record by a function to which only a few of its arrays and numbers are lent.
-use Rattle.std.specs.Prelude.{◌≡◌, ℕ, ◌<◌, true, cond, List, eqb, get_or}
+use Rattle.std.specs.Prelude.{◌≡◌, ℕ, true, cond, List, eqb}
 use Rattle.plant.specs.declared.Plant.{Plant}
+use Rattle.choice.specs.Table.{ChoicesIn, Tabled}
 use Rattle.rules.specs.declared.Monitor.{Monitor}
 use Rattle.rules.specs.Rules.{Call, answer}
 use Rattle.rules.specs.Rules as call
 use Rattle.rules.specs.Record.{view_of, intact, stepped}
 use Rattle.calls.specs.declared.PlantCounts.{PlantCounts}
-use Rattle.calls.specs.Kept.{Granted}
+use Rattle.calls.specs.Work.{Needed, Granted}
 
 -- the counts of a plant, as they go from function to function
 abbrev pub plant_counts : Plant → PlantCounts
@@ -56,19 +57,14 @@ pub record GrantReads (n : PlantCounts) (group granted chosen : List ℕ) (m : M
   pub passed : Passed n m
   pub group_is : m.plant.tank_group ≡ group
   pub chosen_is : m.chosen ≡ chosen
-  pub grants : Granted m.plant m.running granted
+  pub grants : Granted m.plant.task_rights m.running m.plant.skids granted
 
--- the same of a skid and a tank that are there, for whoever asks whether a right is held
-pub record HeldReads (group rights running chosen : List ℕ) (s o : ℕ) (m : Monitor) : Type 0 where
-  pub reads : GateReads (plant_counts m.plant) group rights running chosen m
-  pub skid : s < m.plant.skids
-  pub tank : o < m.plant.tanks
+-- the table of the choices of a plant, from each group under each level
+abbrev pub Choices : Plant → List ℕ → Type 0
+Choices P made = ChoicesIn P.lattice_sets P.tank_group P.tank_level P.requirement_lattice P.group_requirement P.groups P.tanks made
 
-pub record GrantedReads (group granted chosen : List ℕ) (s o : ℕ) (m : Monitor) : Type 0 where
-  pub reads : GrantReads (plant_counts m.plant) group granted chosen m
-  pub skid : s < m.plant.skids
-  pub tank : o < m.plant.tanks
-
--- an entry of a row of eight
-abbrev pub get_row : List ℕ → ℕ → ℕ
-get_row row g = get_or row g 0
+-- What a list remembers of its plant from one request to the next: the table of choices, made at the first start that passes 26, and the groups
+-- that each task needs.
+pub record Tables (P : Plant) (made needs : List ℕ) : Type 0 where
+  pub table : Tabled P.lattice_sets P.tank_group P.tank_level P.requirement_lattice P.group_requirement P.groups P.tanks made
+  pub tasks : Needed P.task_rights P.groups needs

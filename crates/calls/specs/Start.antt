@@ -1,34 +1,21 @@
--- What the parts of a start promise, for every record that has what is lent to them: the conditions that come before any group, and the tanks.
-use Rattle.std.specs.Prelude.{◌≡◌, ◌≢◌, ℕ, ◌+◌, ◌*◌, ◌<◌, true, cond, not, List, [], ◌∷◌, eqb, get_or, take, drop}
+-- What a start finds at its groups and stores, for every record that has what is lent to its parts.
+use Rattle.std.specs.Prelude.{◌≡◌, ◌≢◌, ℕ, ◌+◌, ◌*◌, ◌<◌, true, cond, List, eqb, get_or, drop}
 use Rattle.std.proofs.Math.ListN as ListN
-use Rattle.base.specs.Chain.{Test, ◌gives◌, first}
+use Rattle.base.specs.Chain.{Test, first}
 use Rattle.plant.specs.declared.Plant.{Plant}
-use Rattle.plant.specs.Plant.{requirement_of}
-use Rattle.choice.specs.Choice.{unset, served, choice}
+use Rattle.plant.specs.Plant.{requirement_of, needs}
+use Rattle.choice.specs.Choice.{unset, choice}
 use Rattle.rules.specs.declared.Monitor.{Monitor}
-use Rattle.rules.specs.Rules.{start, conditions, pick_for}
+use Rattle.rules.specs.Rules.{start, conditions}
 use Rattle.rules.specs.Record.{view_of, changed, intact}
-use Rattle.calls.specs.declared.PlantCounts.{PlantCounts}
-use Rattle.calls.specs.Kept.{NeedsAt}
-use Rattle.calls.specs.Lent.{Passed, get_row}
 
--- The rules' conditions of a start, cut in two: 21 to 26, which ask nothing of the levels and the groups, and the others.
-abbrev pub early_tests : Monitor → ℕ → ℕ → List Test
-early_tests m s t = take 4 (conditions m.plant (view_of m.plant m) (start s t))
-
+-- The rules' conditions of a start behind 21 to 26, which ask nothing of the levels and the groups.
 abbrev pub late_tests : Monitor → ℕ → ℕ → List Test
 late_tests m s t = drop 4 (conditions m.plant (view_of m.plant m) (start s t))
 
--- what the early ones read of a record
-pub record EarlyReads (n : PlantCounts) (may running : List ℕ) (m : Monitor) : Type 0 where
-  pub passed : Passed n m
-  pub may_is : m.plant.skid_tasks ≡ may
-  pub running_is : m.running ≡ running
-
--- what the groups that a task needs are read of
-pub record NeedReads (rights : List ℕ) (groups : ℕ) (P : Plant) : Type 0 where
-  pub rights_are : P.task_rights ≡ rights
-  pub groups_are : P.groups ≡ groups
+-- task t needs group g
+abbrev pub NeedsAt : Plant → ℕ → ℕ → Type 0
+NeedsAt P t g = (g < P.groups) × (needs P t g ≡ true)
 
 -- the level that the skid has for each requirement in the task
 abbrev pub wish_of : Monitor → ℕ → ℕ → ℕ → ℕ
@@ -64,16 +51,6 @@ EntryPut m s t g made made' = made' ≡ cond (eqb (wish_of m s t (requirement_of
 pub record LateReads (requirement levels made : List ℕ) (s t : ℕ) (m : Monitor) : Type 0 where
   pub wishes : WishReads requirement levels s t m
   pub table : Looked m s t made
-
--- what is found at one needed group, whose tank goes to the row
-pub record GroupDone (m : Monitor) (s t g : ℕ) (row : List ℕ) (number : ℕ) (row' : List ℕ) : Type 0 where
-  pub answers : number ≡ first (eqb (wish_of m s t (requirement_of m.plant g)) unset gives 27 ∷ not (served m.plant g (wish_of m s t)) gives 28 ∷ [])
-  pub chooses : row' ≡ cond (eqb (wish_of m s t (requirement_of m.plant g)) unset) row (ListN.set row g (choice m.plant g (wish_of m s t)))
-
--- what is found over all groups; nobody reads the row of a start that is refused
-pub record RowDone (m : Monitor) (s t number : ℕ) (row : List ℕ) : Type 0 where
-  pub answers : number ≡ first (late_tests m s t)
-  pub chooses : number ≡ 0 → (g : ℕ) → g < 8 → get_row row g ≡ pick_for m.plant t (wish_of m s t) g
 
 -- what a start that is accepted stores its task and its tanks in, and what the late conditions and the storing do
 pub record StoreReads (requirement levels made running chosen : List ℕ) (s t : ℕ) (m : Monitor) : Type 0 where
