@@ -1,12 +1,12 @@
 // The work of a gate on the parts of a record that are lent to it: by the record, or in a list by the rights granted.
 #![tactic(auto)]
 
-ghost use Rattle.std.specs.Prelude.{◌≡◌, ◌≢◌, ℕ, eqb};
+ghost use Rattle.std.specs.Prelude.{◌≡◌, ◌≢◌, true, ℕ, ◌<◌, eqb, get_or};
 ghost use Rattle.plant.specs.declared.Plant.{Plant};
 ghost use Rattle.rules.specs.declared.Monitor.{Monitor};
-ghost use Rattle.rules.specs.Rules.{View, gate, holds, refusal};
-ghost use Rattle.rules.specs.Record.{view_of};
-ghost use Rattle.calls.specs.Lent.{plant_counts, Does, GateReads, GrantReads, HeldReads, GrantedReads};
+ghost use Rattle.rules.specs.Rules.{View, gate, refusal};
+ghost use Rattle.calls.specs.Lent.{plant_counts, Does, GateReads, GrantReads};
+ghost use Rattle.calls.specs.Work.{task_known, granted_in, held_in};
 
 use calls::PlantCounts;
 use plant::Right;
@@ -89,9 +89,9 @@ fn is_granted<'a, 'b>(
     o: u8,
     r: u8,
 ) -> bool
-    requires { (m : Monitor) × GrantedReads group.now granted.now chosen.now s o m }
-    ensures { (m : Monitor) → GrantedReads group.now granted.now chosen.now s o m
-        → result ≡ holds m.plant (view_of m.plant m s) o r }
+    requires s_bound { (s < 8) × (o < 64) }
+    requires o_bound { get_or group.now o 0 < 8 }
+    ensures { result ≡ granted_in group.now granted.now chosen.now s o r }
 {
     let at = s * 8 + wide(group[o as usize]);
     let x = granted[at];
@@ -108,9 +108,9 @@ pub fn is_held<'a, 'b>(
     o: u8,
     r: u8,
 ) -> bool
-    requires { (m : Monitor) × HeldReads group.now rights.now running.now chosen.now s o m }
-    ensures { (m : Monitor) → HeldReads group.now rights.now running.now chosen.now s o m
-        → result ≡ holds m.plant (view_of m.plant m s) o r }
+    requires s_bound { (s < 8) × (o < 64) }
+    requires o_bound { (get_or group.now o 0 < 8) × (task_known running.now s ≡ true) }
+    ensures { result ≡ held_in group.now rights.now running.now chosen.now s o r }
 {
     let t = running[s];
     if t == 255 {
