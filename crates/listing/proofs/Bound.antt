@@ -1,7 +1,8 @@
 -- At most 192 rights are held, so the list has at most 577 bytes: a skid holds rights on at most one tank of each of eight groups. Assumes nothing.
 use mathlib.Core.Path.{sym, ap, ◌∙◌}
-use Prim.Native.Nat.{ℕ, ◌≤◌}
+use Prim.Native.Nat.{ℕ, ◌+◌, ◌*◌, ◌≤◌}
 use mathlib.Core.Bool.{Bool, true, cond, not}
+use mathlib.Core.List.{List}
 use native.Mathlib.Omega.{arith}
 use lib.Dec.{eqb}
 use lib.ListN.{length, get_or}
@@ -9,50 +10,42 @@ use borrow.Author.Tests.{eqb-true}
 use Rattle.base.specs.Count.{count_below}
 use Rattle.base.proofs.Logic.{split, and_true}
 use Rattle.base.proofs.Count.{count_all, count_none, count_places, collect_bound}
-use Rattle.plant.specs.declared.Plant.{Plant}
-use Rattle.plant.specs.Plant.{group_of, names_right}
-use Rattle.plant.specs.Valid.{Valid}
-use Rattle.plant.specs.Right.{all_rights}
-use Rattle.choice.specs.Choice.{unset}
-use Rattle.rules.specs.Rules.{View, holds}
-use Rattle.listing.specs.Held.{right_at, rights_on, rights_by, rights_held, right_bytes}
-use Rattle.listing.proofs.Listed.{bytes_length}
+use Rattle.plant.specs.Right.{all_rights, has_right}
+use Rattle.plant.proofs.Links.{entry_at}
+use Rattle.rules.specs.Record.{chosen_at}
+use Rattle.calls.specs.Work.{held_in}
+use Rattle.listing.specs.Work.{Known, right_bytes_in, tank_bytes_in, skid_bytes_in, skids_bytes_in}
 
-module _ (P : Plant) (vs : ℕ → View) where
+module _ (group rights running chosen : List ℕ) where
   -- tank o is the one that skid s has in o's group
   chosen_here : ℕ → ℕ → Bool
-  chosen_here s o = eqb ((vs s).chosen (group_of P o)) o
+  chosen_here s o = eqb (get_or chosen (chosen_at s (get_or group o 0)) 0) o
 
-  right_short : (s o r : ℕ) → length (right_at P vs s o r) ≤ cond (chosen_here s o) 1 0
-  unfolding chosen_here holds
-  right_short s o r = split (holds P (vs s) o r)
-      (λ h. let e = (and_true (names_right P (vs s).running r (group_of P o)) (chosen_here s o) (and_true (not (eqb (vs s).running unset)) _ h).1).1 in rw (h, e) (omega arith))
+  right_short : (s o r : ℕ) → length (right_bytes_in group rights running chosen s o r) ≤ cond (chosen_here s o) 3 0
+  unfolding chosen_here
+  right_short s o r = split (held_in group rights running chosen s o r)
+      (λ h. let e = (and_true (has_right (get_or rights (get_or running s 0 * 8 + get_or group o 0) 0) r) (chosen_here s o) (and_true (not (eqb (get_or running s 0) 255)) _ h).1).1 in rw (h, e) (omega arith))
       (λ h. rw h (omega arith))
 
-  tank_short : (s o : ℕ) → length (rights_on P vs s o) ≤ cond (chosen_here s o) 3 0
+  tank_short : (s o : ℕ) → length (tank_bytes_in group rights running chosen s o) ≤ cond (chosen_here s o) 9 0
   tank_short s o =
-      let b = collect_bound (λ i. right_at P vs s o (get_or all_rights i 0)) (λ i. chosen_here s o) 1 3 (λ i l. right_short s o (get_or all_rights i 0)) in
+      let b = collect_bound (λ i. right_bytes_in group rights running chosen s o (get_or all_rights i 0)) (λ i. chosen_here s o) 3 3 (λ i l. right_short s o (get_or all_rights i 0)) in
       split (chosen_here s o)
       (λ h. rw h (omega (arith, b, count_all (λ r. chosen_here s o) 3)))
       (λ h. rw h (omega (arith, b, count_none (λ r. chosen_here s o) 3 (λ r l. h))))
 
-  module _ (w : Valid P) where
-    skid_short : (s : ℕ) → length (rights_by P vs s) ≤ 24
+  module _ (skids tanks : ℕ) (k : Known group running skids tanks) where
+    skid_short : (s : ℕ) → length (skid_bytes_in group rights running chosen tanks s) ≤ 72
     unfolding chosen_here
     skid_short s =
-        let b = collect_bound (rights_on P vs s) (chosen_here s) 3 P.tanks (λ o l. tank_short s o) in
-        let n : count_below (chosen_here s) P.tanks ≤ P.groups =
-        count_places (group_of P) P.groups P.tanks (chosen_here s) (λ o l h. w.group_in o l)
-        (λ i j a c x y e. sym (eqb-true _ i x) ∙ ap (vs s).chosen e ∙ eqb-true _ j y)
+        let b = collect_bound (tank_bytes_in group rights running chosen s) (chosen_here s) 9 tanks (λ o l. tank_short s o) in
+        let n : count_below (chosen_here s) tanks ≤ 8 =
+        count_places (λ o. get_or group o 0) 8 tanks (chosen_here s) (λ o l h. entry_at group 8 tanks o k.groups_there l)
+        (λ i j a c x y e. sym (eqb-true _ i x) ∙ ap (λ (g : ℕ). get_or chosen (chosen_at s g) 0) e ∙ eqb-true _ j y)
         in
-        omega (arith, b, n, w.counts.groups_fit)
+        omega (arith, b, n)
 
-    pub held_at_most : length (rights_held P vs) ≤ 192
-    unfolding rights_held
-    held_at_most =
-        let b = collect_bound (rights_by P vs) (λ s. true) 24 P.skids (λ s l. skid_short s) in
-        omega (arith, b, count_all (λ s. true) P.skids, w.counts.skids_fit)
-
-    -- three bytes each
-    pub bytes_at_most : length (right_bytes (rights_held P vs)) ≤ 576
-    bytes_at_most = omega (arith, held_at_most, bytes_length (rights_held P vs))
+    pub list_short : length (skids_bytes_in group rights running chosen skids tanks) ≤ 576
+    list_short =
+        let b = collect_bound (skid_bytes_in group rights running chosen tanks) (λ s. true) 72 skids (λ s l. skid_short s) in
+        omega (arith, b, count_all (λ s. true) skids, k.skids_fit)

@@ -1,7 +1,7 @@
--- The list holds exactly the rights held, each once, rising; there is no other such list; and what its bytes are. Assumes nothing.
+-- The list holds exactly the rights held, each once, rising; there is no other such list; and the writer's bytes are its listing. Assumes nothing.
 use mathlib.Core.Path.{◌≡◌, refl, sym, ap, ap₂, subst, ◌∙◌}
 use mathlib.Core.Logic.{◌⊎◌, inl, inr, ⊎_elim, ◌↔◌}
-use Prim.Native.Nat.{ℕ, zero, suc, ◌+◌, ◌*◌, ◌/◌, ◌<◌}
+use Prim.Native.Nat.{ℕ, zero, suc, ◌+◌, ◌*◌, ◌/◌, ◌≤◌, ◌<◌}
 use mathlib.Core.Bool.{Bool, true, cond}
 use mathlib.Core.List.Memᴰ
 use mathlib.Core.List.{List, [], ◌∷◌, ◌++◌}
@@ -10,12 +10,19 @@ use lib.ListN.{length, get_or}
 use Rattle.base.specs.Collect.{collect}
 use Rattle.base.specs.Rising.{In, Rising}
 use Rattle.base.proofs.Logic.{split}
+use Rattle.base.proofs.Collected.{collect_same}
 use Rattle.base.proofs.Rising.{in_part, part_in, rising_collect, rising_unique}
 use Rattle.plant.specs.declared.Plant.{Plant}
 use Rattle.plant.specs.Right.{all_rights}
 use Rattle.plant.proofs.Rights.{number_at, number_rises}
+use Rattle.rules.specs.declared.Monitor.{Monitor}
 use Rattle.rules.specs.Rules.{View, holds}
+use Rattle.rules.specs.Record.{view_of, intact}
+use Rattle.calls.proofs.Ready.{plant_valid, groups_there, tasks_known}
+use Rattle.calls.proofs.Views.{held_same}
+use Rattle.listing.proofs.Bound.{list_short}
 use Rattle.listing.specs.Held.{HeldRight, Before, Lists, right_at, rights_on, rights_by, rights_held, right_bytes, listing}
+use Rattle.listing.specs.Work.{Known, right_bytes_in, skids_bytes_in, list_bytes_in}
 
 abbrev entry : ℕ → ℕ → ℕ → HeldRight
 entry s o r = record { skid = s; tank = o; right = r }
@@ -131,7 +138,7 @@ unfolding right_bytes
 bytes_append [] m = refl
 bytes_append (h ∷ l) m = ap (λ (k : List ℕ). h.skid ∷ h.tank ∷ h.right ∷ k) (bytes_append l m)
 
-pub bytes_collect : (f : ℕ → List HeldRight) (n : ℕ) → right_bytes (collect f n) ≡ collect (λ i. right_bytes (f i)) n
+bytes_collect : (f : ℕ → List HeldRight) (n : ℕ) → right_bytes (collect f n) ≡ collect (λ i. right_bytes (f i)) n
 unfolding collect right_bytes
 bytes_collect f zero = refl
 bytes_collect f (suc n) = bytes_append (collect f n) (f n) ∙ ap (λ (l : List ℕ). l ++ right_bytes (f n)) (bytes_collect f n)
@@ -151,6 +158,35 @@ bytes_at (x ∷ l) d (suc i) h =
     let at : (k j : ℕ) → k ≡ suc (suc (suc j)) → get_or (right_bytes (x ∷ l)) k 0 ≡ get_or (right_bytes l) j 0 = λ k j e. ap (λ (n : ℕ). get_or (right_bytes (x ∷ l)) n 0) e in
     (at (suc i * 3) (i * 3) (omega arith) ∙ r.0, (at (suc i * 3 + 1) (i * 3 + 1) (omega arith) ∙ r.1.0, at (suc i * 3 + 2) (i * 3 + 2) (omega arith) ∙ r.1.1))
 
--- the count is a third of the bytes
-pub listing_by_bytes : (l : List HeldRight) → length (right_bytes l) / 3 ∷ right_bytes l ≡ listing l
-listing_by_bytes l = ap (λ (n : ℕ). n ∷ right_bytes l) (let e : length (right_bytes l) / 3 ≡ length l = omega (arith, bytes_length l) in e)
+-- On a record that passes test 20 the writer's list is the listing of the rights that its views hold.
+module _ (m : Monitor) (i : intact m.plant m ≡ true) where
+  abbrev P : Plant
+  P = m.plant
+
+  abbrev vs : ℕ → View
+  vs = view_of P m
+
+  pub known : Known P.tank_group m.running P.skids P.tanks
+  known = record { skids_fit = (plant_valid m i).counts.skids_fit; tanks_fit = (plant_valid m i).counts.tanks_fit; groups_there = groups_there m i; tasks_known = tasks_known m i }
+
+  one_same : (s o r : ℕ) → s < P.skids → o < P.tanks → right_bytes_in P.tank_group P.task_rights m.running m.chosen s o r ≡ right_bytes (right_at P vs s o r)
+  unfolding right_bytes
+  one_same s o r a b = ap (λ (x : Bool). cond x (s ∷ o ∷ r ∷ []) []) (held_same m i s o r a b) ∙ split (holds P (vs s) o r) (λ h. rw h) (λ h. rw h)
+
+  rights_same : skids_bytes_in P.tank_group P.task_rights m.running m.chosen P.skids P.tanks ≡ right_bytes (rights_held P vs)
+  unfolding rights_held
+  rights_same =
+      collect_same _ _ P.skids (λ s a.
+      collect_same _ _ P.tanks (λ o b. collect_same _ _ 3 (λ i c. one_same s o (get_or all_rights i 0) a b) ∙ sym (bytes_collect (numbered P vs s o) 3))
+      ∙ sym (bytes_collect (rights_on P vs s) P.tanks))
+      ∙ sym (bytes_collect (rights_by P vs) P.skids)
+
+  pub written_listing : list_bytes_in P.tank_group P.task_rights m.running m.chosen P.skids P.tanks ≡ listing (rights_held P vs)
+  written_listing =
+      ap (λ (l : List ℕ). length l / 3 ∷ l) rights_same
+      ∙ ap (λ (n : ℕ). n ∷ right_bytes (rights_held P vs)) (let e : length (right_bytes (rights_held P vs)) / 3 ≡ length (rights_held P vs) = omega (arith, bytes_length (rights_held P vs)) in e)
+
+  -- at most 192 rights are held
+  pub held_at_most : length (rights_held P vs) ≤ 192
+  held_at_most =
+      omega (arith, list_short P.tank_group P.task_rights m.running m.chosen P.skids P.tanks known, ap length rights_same, bytes_length (rights_held P vs))
