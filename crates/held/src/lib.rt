@@ -3,12 +3,8 @@
 
 ghost use Rattle.std.specs.Prelude.{◌≡◌, [], ◌∷◌, ◌+◌, ◌/◌, ◌<◌, ◌≤◌, length};
 ghost use Rattle.base.specs.Overlay.{overlay, Wrote};
-ghost use Rattle.rules.specs.declared.Monitor.{Monitor};
-ghost use Rattle.calls.specs.Lent.{GateReads, HeldReads};
-ghost use Rattle.listing.specs.Held.{right_bytes, listing};
-ghost use Rattle.listing.specs.Parts.{held_at, held_on, held_by, held_rights, RoomFor};
+ghost use Rattle.listing.specs.Work.{Known, right_bytes_in, tank_bytes_in, skid_bytes_in, skids_bytes_in, list_bytes_in};
 
-use calls::PlantCounts;
 use gates::is_held;
 use plant::Right;
 
@@ -30,15 +26,18 @@ fn write_right<'a, 'b>(
     rights: &'a [u8; 128],
     running: &'b [u8; 8],
     chosen: &'b [u8; 64],
+    skids: u8,
+    tanks: u8,
     s: u8,
     o: u8,
     r: u8,
     out: &mut [u8],
     at: usize,
 ) -> usize
-    requires { (m : Monitor) × (HeldReads group.now rights.now running.now chosen.now s o m × RoomFor (held_at m s o r) out.old at) }
-    ensures { (m : Monitor) → HeldReads group.now rights.now running.now chosen.now s o m
-        → RoomFor (held_at m s o r) out.old at → Wrote (right_bytes (held_at m s o r)) out.old at out.new result }
+    requires known { Known group.now running.now skids tanks }
+    requires s_lt_skids { (s < skids) × (o < tanks) }
+    requires r_in_bounds { at + length (right_bytes_in group.now rights.now running.now chosen.now s o r) ≤ length out.old }
+    ensures { Wrote (right_bytes_in group.now rights.now running.now chosen.now s o r) out.old at out.new result }
 {
     if is_held(group, rights, running, chosen, s as usize, o, r) {
         return put_right(out, at, s, o, r);
@@ -52,64 +51,71 @@ fn write_tank<'a, 'b>(
     rights: &'a [u8; 128],
     running: &'b [u8; 8],
     chosen: &'b [u8; 64],
+    skids: u8,
+    tanks: u8,
     s: u8,
     o: u8,
     out: &mut [u8],
     at: usize,
 ) -> usize
-    requires { (m : Monitor) × (HeldReads group.now rights.now running.now chosen.now s o m × RoomFor (held_on m s o) out.old at) }
-    ensures { (m : Monitor) → HeldReads group.now rights.now running.now chosen.now s o m
-        → RoomFor (held_on m s o) out.old at → Wrote (right_bytes (held_on m s o)) out.old at out.new result }
+    requires known { Known group.now running.now skids tanks }
+    requires s_lt_skids { (s < skids) × (o < tanks) }
+    requires o_in_bounds { at + length (tank_bytes_in group.now rights.now running.now chosen.now s o) ≤ length out.old }
+    ensures { Wrote (tank_bytes_in group.now rights.now running.now chosen.now s o) out.old at out.new result }
 {
     let numbers = Right::all();
     let mut end = at;
     for i in 0..numbers.len() {
-        end = write_right(group, rights, running, chosen, s, o, numbers[i], out, end);
+        end = write_right(
+            group, rights, running, chosen, skids, tanks, s, o, numbers[i], out, end,
+        );
     }
     end
 }
 
 fn write_skid<'a, 'b>(
-    counts: PlantCounts,
     group: &'a [u8; 64],
     rights: &'a [u8; 128],
     running: &'b [u8; 8],
     chosen: &'b [u8; 64],
+    skids: u8,
+    tanks: u8,
     s: u8,
     out: &mut [u8],
     at: usize,
 ) -> usize
-    requires in_range { s < counts.skids }
-    requires reads { (m : Monitor) × (GateReads counts group.now rights.now running.now chosen.now m × RoomFor (held_by m s) out.old at) }
-    ensures { (m : Monitor) → GateReads counts group.now rights.now running.now chosen.now m
-        → RoomFor (held_by m s) out.old at → Wrote (right_bytes (held_by m s)) out.old at out.new result }
+    requires known { Known group.now running.now skids tanks }
+    requires s_lt_skids { s < skids }
+    requires s_in_bounds { at + length (skid_bytes_in group.now rights.now running.now chosen.now tanks s) ≤ length out.old }
+    ensures { Wrote (skid_bytes_in group.now rights.now running.now chosen.now tanks s) out.old at out.new result }
 {
     let mut end = at;
     let mut o: u8 = 0;
-    while o < counts.tanks {
-        end = write_tank(group, rights, running, chosen, s, o, out, end);
+    while o < tanks {
+        end = write_tank(group, rights, running, chosen, skids, tanks, s, o, out, end);
         o += 1;
     }
     end
 }
 
 fn write_skids<'a, 'b>(
-    counts: PlantCounts,
     group: &'a [u8; 64],
     rights: &'a [u8; 128],
     running: &'b [u8; 8],
     chosen: &'b [u8; 64],
+    skids: u8,
+    tanks: u8,
     out: &mut [u8],
     at: usize,
 ) -> usize
-    requires { (m : Monitor) × (GateReads counts group.now rights.now running.now chosen.now m × RoomFor (held_rights m) out.old at) }
-    ensures { (m : Monitor) → GateReads counts group.now rights.now running.now chosen.now m
-        → RoomFor (held_rights m) out.old at → Wrote (right_bytes (held_rights m)) out.old at out.new result }
+    requires known { Known group.now running.now skids tanks }
+    requires tanks_in_bounds { at + length (skids_bytes_in group.now rights.now running.now chosen.now skids tanks) ≤ length out.old }
+    ensures { Wrote (skids_bytes_in group.now rights.now running.now chosen.now skids tanks) out.old at out.new result }
 {
     let mut end = at;
     let mut s: u8 = 0;
-    while s < counts.skids {
-        end = write_skid(counts, group, rights, running, chosen, s, out, end);
+    while s < skids {
+        end = write_skid(group, rights, running, chosen, skids, tanks, s, out, end);
         s += 1;
     }
     end
@@ -125,18 +131,18 @@ fn rights_in(bytes: usize) -> u8
 
 // The list from the buffer's first byte on. The count is known once the rights are written.
 pub fn write_held<'a, 'b>(
-    counts: PlantCounts,
     group: &'a [u8; 64],
     rights: &'a [u8; 128],
     running: &'b [u8; 8],
     chosen: &'b [u8; 64],
+    skids: u8,
+    tanks: u8,
     out: &mut [u8],
 )
-    requires reads { (m : Monitor) × GateReads counts group.now rights.now running.now chosen.now m }
-    requires room { 577 ≤ length out.old }
-    ensures { (m : Monitor) → GateReads counts group.now rights.now running.now chosen.now m
-        → out.new ≡ overlay out.old 0 (listing (held_rights m)) }
+    requires known { Known group.now running.now skids tanks }
+    requires in_bounds { 577 ≤ length out.old }
+    ensures { out.new ≡ overlay out.old 0 (list_bytes_in group.now rights.now running.now chosen.now skids tanks) }
 {
-    let end = write_skids(counts, group, rights, running, chosen, out, 1);
+    let end = write_skids(group, rights, running, chosen, skids, tanks, out, 1);
     out[0] = rights_in(end - 1);
 }

@@ -1,13 +1,12 @@
 -- The skid's rights on the first o tanks are written.
-use Rattle.std.proofs.Common.{◌-◌}
-use Rattle.calls.specs.Lent.{GateReads}
-use Rattle.listing.specs.Parts.{held_on, held_by}
-use Rattle.held.proofs.Turns.{WroteTurns}
+use Rattle.std.proofs.Common.{◌≤◌, ◌-◌}
+use Rattle.base.specs.Collect.{collect}
+use Rattle.base.specs.Overlay.{Wrote}
+use Rattle.listing.specs.Work.{tank_bytes_in}
 use Rattle.held.proofs.write_skid.Given as goal
 
 abbrev pub invariant-loop-o : goal.invariant-loop-o
-invariant-loop-o l =
-    WroteTurns (GateReads l.counts l.group l.rights l.running l.chosen) (λ m. held_by m l.s) (λ m. held_on m l.s) l.counts.tanks l.initial.out l.at l.o l.out l.end
+invariant-loop-o l = (l.o ≤ l.tanks) × Wrote (collect (tank_bytes_in l.group l.rights l.running l.chosen l.s) l.o) l.initial.out l.at l.out l.end
 
 abbrev pub decreases-loop-o : goal.decreases-loop-o
-decreases-loop-o l = l.counts.tanks - l.o
+decreases-loop-o l = l.tanks - l.o

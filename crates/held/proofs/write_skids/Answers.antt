@@ -1,21 +1,13 @@
--- Skid by skid: the counts that are lent are the plant's.
-use Rattle.std.proofs.Common.{ap}
-use Rattle.base.specs.Collect.{collect}
-use Rattle.calls.proofs.Steps.{skids_are}
-use Rattle.listing.specs.Held.{rights_held}
-use Rattle.listing.specs.Parts.{held_by}
-use Rattle.held.proofs.Turns.{turns_none, turns_room, turns_more, turns_end}
+-- Skid by skid.
+use Rattle.std.proofs.Common.{arith}
+use Rattle.base.proofs.Collected.{wrote_none, wrote_more, wrote_room}
 use Rattle.held.proofs.write_skids.Goals as goal
 
 pub loop-s-init : goal.loop-s-init
-unfolding rights_held
-loop-s-init c = turns_none (λ m h. ap (collect (held_by m)) (skids_are h.passed))
+loop-s-init c = (omega arith, wrote_none _ _ _)
 
-pub write_skid-end-requires-clause-reads : goal.write_skid-end-requires-clause-reads
-write_skid-end-requires-clause-reads c = turns_room c.loop-s.invariant c.loop-s-test.true c.requires
+pub write_skid-end-requires-clause-s_in_bounds : goal.write_skid-end-requires-clause-s_in_bounds
+write_skid-end-requires-clause-s_in_bounds c = wrote_room _ _ _ c.loop-s.s c.args.skids c.loop-s-test.true c.requires.tanks_in_bounds c.loop-s.invariant.1
 
 pub loop-s-preserved : goal.loop-s-preserved
-loop-s-preserved c = turns_more c.loop-s.invariant c.loop-s-test.true c.write_skid-end.ensures
-
-pub returns : goal.returns
-returns c = turns_end c.loop-s.invariant c.loop-s-test.false
+loop-s-preserved c = (omega arith, wrote_more _ _ _ c.loop-s.s c.args.skids c.loop-s-test.true c.requires.tanks_in_bounds c.loop-s.invariant.1 c.write_skid-end.ensures)
