@@ -1,18 +1,16 @@
 // The row of tanks that a start chooses: the groups that its task needs, and the tank for each.
 #![tactic(auto)]
 
-ghost use Rattle.std.specs.Prelude.{◌≡◌, ◌<◌, ◌≤◌, replicate};
-ghost use Rattle.plant.specs.declared.Plant.{Plant};
-ghost use Rattle.rules.specs.declared.Monitor.{Monitor};
-ghost use Rattle.calls.specs.Kept.{NeedsAt, Needed, TaskNeeds};
-ghost use Rattle.calls.specs.Start.{NeedReads, LateReads, GroupDone, RowDone};
+ghost use Rattle.std.specs.Prelude.{◌≡◌, true, ◌<◌, ◌≤◌, get_or, replicate};
+ghost use Rattle.base.specs.Bits.{bit};
+ghost use Rattle.calls.specs.Work.{level_known, made_at, NeedIn, Needed, Reached, GroupDone, RowDone};
 
 use sets::{wide, with_one, without_one};
 
 // The groups on which task t names a right, as a set.
 pub fn need_of(rights: &[u8; 128], t: usize, groups: u8) -> u16
     requires { (t < 16) × (groups ≤ 8) }
-    ensures { (P : Plant) → NeedReads rights.now groups P → Needed P t result }
+    ensures { NeedIn rights.now t groups result }
 {
     let n = wide(groups);
     let mut need: u16 = 0;
@@ -27,9 +25,9 @@ pub fn need_of(rights: &[u8; 128], t: usize, groups: u8) -> u16
 // The same, made at the first start of the task in a list that passes 26 and looked up at the others. The empty set stands for one that is not
 // made yet; a task without a right is looked at anew.
 pub fn need_once<'a>(rights: &'a [u8; 128], needs: &mut [u16; 16], t: usize, groups: u8) -> u16
-    requires { (t < 16) × (groups ≤ 8) }
-    ensures { (P : Plant) → NeedReads rights.now groups P → TaskNeeds P needs.old
-        → Needed P t result × TaskNeeds P needs.new }
+    requires t_bound { (t < 16) × (groups ≤ 8) }
+    requires needed { Needed rights.now groups needs.old }
+    ensures { NeedIn rights.now t groups result × Needed rights.now groups needs.new }
 {
     let known = needs[t];
     if known != 0 {
@@ -50,9 +48,9 @@ fn choose_at<'a>(
     t: usize,
     g: usize,
 ) -> u8
-    requires { (m : Monitor) × (LateReads requirement.now levels.now made.now s t m × NeedsAt m.plant t g) }
-    ensures { (m : Monitor) → LateReads requirement.now levels.now made.now s t m → NeedsAt m.plant t g
-        → GroupDone m s t g row.old result row.new }
+    requires s_bound { (s < 8) × ((t < 16) × (g < 8)) }
+    requires g_bound { (get_or requirement.now g 0 < 8) × (level_known levels.now s t (get_or requirement.now g 0) ≡ true) }
+    ensures { GroupDone (made_at made.now) requirement.now levels.now s t g row.old result row.new }
 {
     let d = wide(requirement[g]);
     let v = levels[(s * 16 + t) * 8 + d];
@@ -78,10 +76,9 @@ pub fn choose_row<'a>(
     t: usize,
     need: u16,
 ) -> u8
-    requires late_reads { (m : Monitor) × (LateReads requirement.now levels.now made.now s t m × Needed m.plant t need) }
-    requires empty_row { row.old ≡ replicate 8 255 }
-    ensures { (m : Monitor) → LateReads requirement.now levels.now made.now s t m → Needed m.plant t need
-        → RowDone m s t result row.new }
+    requires s_bound { (s < 8) × (t < 16) }
+    requires reached { Reached requirement.now levels.now s t need × (row.old ≡ replicate 8 255) }
+    ensures { RowDone (made_at made.now) requirement.now levels.now s t (bit need) 8 result row.new }
 {
     let mut number: u8 = 0;
     let mut rest = need;

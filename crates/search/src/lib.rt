@@ -8,7 +8,7 @@ ghost use Rattle.plant.specs.Checks.{entry_below};
 ghost use Rattle.choice.specs.Search.{nearest_in, choice_in};
 ghost use Rattle.choice.specs.Table.{stands_in};
 ghost use Rattle.rules.specs.declared.Monitor.{Monitor};
-ghost use Rattle.calls.specs.Kept.{Needed};
+ghost use Rattle.calls.specs.Work.{NeedIn};
 ghost use Rattle.calls.specs.Start.{SearchReads, EntryPut, Looked};
 
 use nearest::{nearest_for, places_of};
@@ -109,10 +109,10 @@ pub fn put_choices_for<'a>(
     tanks: u8,
 )
     requires search_reads { (m : Monitor) × (SearchReads sets.now lattice.now requirement.now group.now level.now levels.now s t tanks m
-        × Needed m.plant t need) }
+        × NeedIn m.plant.task_rights t m.plant.groups need) }
     requires made_len { length made.old ≡ 128 }
     ensures { (m : Monitor) → SearchReads sets.now lattice.now requirement.now group.now
-        level.now levels.now s t tanks m → Needed m.plant t need → Looked m s t made.new }
+        level.now levels.now s t tanks m → NeedIn m.plant.task_rights t m.plant.groups need → Looked m s t made.new }
 {
     let places = places_of(group, level, tanks as usize);
     let mut rest = need;

@@ -2,12 +2,11 @@
 #![tactic(auto)]
 
 ghost use Rattle.std.specs.Prelude.{◌≡◌, cond, ◌*◌, ◌<◌};
-ghost use Rattle.plant.specs.declared.Plant.{Plant};
-ghost use Rattle.plant.specs.Plant.{rights_of};
 ghost use Rattle.rules.specs.declared.Monitor.{Monitor};
 ghost use Rattle.rules.specs.Rules.{set, stop};
 ghost use Rattle.rules.specs.Record.{fill_from, with_levels, with_task};
-ghost use Rattle.calls.specs.Lent.{Does, SetReads, StopReads, get_row};
+ghost use Rattle.calls.specs.Lent.{Does, SetReads, StopReads};
+ghost use Rattle.calls.specs.Work.{rights_in, get_row};
 
 use calls::PlantCounts;
 use sets::wide;
@@ -67,7 +66,7 @@ pub fn put_row(rows: &mut [u8; 64], s: usize, row: [u8; 8])
 // Gives a skid the rights of the task that it runs.
 pub fn grant_row<'a>(granted: &mut [u8; 64], rights: &'a [u8; 128], s: usize, t: usize)
     requires { (s < 8) × (t < 16) }
-    ensures { (P : Plant) → P.task_rights ≡ rights.now → granted.new ≡ fill_from granted.old (s * 8) (rights_of P t) 8 }
+    ensures { granted.new ≡ fill_from granted.old (s * 8) (rights_in rights.now t) 8 }
 {
     for g in 0..8 {
         granted[s * 8 + g] = rights[t * 8 + g];

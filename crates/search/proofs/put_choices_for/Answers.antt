@@ -3,15 +3,15 @@ use Rattle.std.proofs.Common.{◌≡◌, ◌≢◌, ◌<◌, ℕ, List, true, no
 use lib.Count.{count_trailing_zeros}
 use Rattle.base.specs.Bits.{bit}
 use Rattle.rules.specs.declared.Monitor.{Monitor}
-use Rattle.calls.specs.Kept.{NeedsAt, Needed}
-use Rattle.calls.specs.Start.{WishReads}
+use Rattle.calls.specs.Work.{NeedIn}
+use Rattle.calls.specs.Start.{WishReads, NeedsAt}
 use Rattle.calls.proofs.Groups.{Eight, next_group, goes_down}
 use Rattle.calls.proofs.Late.{group_there, below_eight}
 use Rattle.calls.proofs.Searched.{tanks_fit, groups_in, levels_in, LookedSoFar, looked_next}
 use Rattle.search.proofs.put_choices_for.Goals as goal
 
 -- in the loop: the group that it has come to, which the task needs
-module _ {requirement levels : List ℕ} {s t : ℕ} {m : Monitor} (W : WishReads requirement levels s t m) {need : ℕ} (n : Needed m.plant t need)
+module _ {requirement levels : List ℕ} {s t : ℕ} {m : Monitor} (W : WishReads requirement levels s t m) {need : ℕ} (n : NeedIn m.plant.task_rights t m.plant.groups need)
     {rest : ℕ} {made : List ℕ} (v : LookedSoFar m s t need rest made) (z : rest ≢ 0) where
   abbrev g : ℕ
   g = count_trailing_zeros 16 rest

@@ -1,7 +1,7 @@
 -- The entries of the row are stored one after the other.
 use Rattle.std.proofs.Common.{◌≡◌, ◌*◌}
 use Rattle.rules.specs.Record.{fill_from}
-use Rattle.calls.specs.Lent.{get_row}
+use Rattle.calls.specs.Work.{get_row}
 use Rattle.steps.proofs.put_row.Given as goal
 
 abbrev pub invariant-loop-g : goal.invariant-loop-g
