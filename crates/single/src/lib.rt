@@ -27,7 +27,14 @@ fn start_alone(m: &mut Monitor, s: u8, t: u8) -> u8
         tasks: m.plant.tasks,
         skids: m.plant.skids,
     };
-    let early = start_early(counts, &m.plant.skid_tasks, &m.running, s, t);
+    let early = start_early(
+        &m.plant.skid_tasks,
+        &m.running,
+        counts.skids,
+        counts.tasks,
+        s,
+        t,
+    );
     if early != 0 {
         return early;
     }

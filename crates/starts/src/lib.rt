@@ -1,13 +1,13 @@
 // A start: its conditions in their order, and what it stores.
 #![tactic(auto)]
 
-ghost use Rattle.std.specs.Prelude.{◌≡◌, true};
+ghost use Rattle.std.specs.Prelude.{◌≡◌, true, ◌≤◌};
 ghost use Rattle.base.specs.Chain.{first};
 ghost use Rattle.rules.specs.Rules.{start};
 ghost use Rattle.rules.specs.Record.{with_task, intact};
-ghost use Rattle.calls.specs.Kept.{Needed, Tables};
-ghost use Rattle.calls.specs.Lent.{Does};
-ghost use Rattle.calls.specs.Start.{EarlyReads, early_tests, StoreReads, LateDone};
+ghost use Rattle.calls.specs.Work.{NeedIn, early_tests};
+ghost use Rattle.calls.specs.Lent.{Does, Tables};
+ghost use Rattle.calls.specs.Start.{StoreReads, LateDone};
 
 use calls::PlantCounts;
 use choices::make_choices;
@@ -16,14 +16,14 @@ use rules::Monitor;
 use steps::put_row;
 
 // Start up to 26, before any group is looked at.
-pub fn start_early(counts: PlantCounts, may: &[u16; 8], running: &[u8; 8], s: u8, t: u8) -> u8
-    requires { (m : Monitor) × EarlyReads counts may.now running.now m }
-    ensures { (m : Monitor) → EarlyReads counts may.now running.now m → result ≡ first (early_tests m s t) }
+pub fn start_early(may: &[u16; 8], running: &[u8; 8], skids: u8, tasks: u8, s: u8, t: u8) -> u8
+    requires { (skids ≤ 8) × (tasks ≤ 16) }
+    ensures { result ≡ first (early_tests may.now running.now skids tasks s t) }
 {
-    if counts.skids <= s {
+    if skids <= s {
         return 21;
     }
-    if counts.tasks <= t {
+    if tasks <= t {
         return 22;
     }
     if (may[s as usize] >> t) % 2 != 1 {
@@ -47,9 +47,9 @@ pub fn start_late<'a>(
     t: u8,
     need: u16,
 ) -> u8
-    requires { (m : Monitor) × (StoreReads requirement.now levels.now made.now running.old chosen.old s t m × Needed m.plant t need) }
-    ensures { (m : Monitor) → StoreReads requirement.now levels.now made.now running.old
-        chosen.old s t m → Needed m.plant t need → LateDone m s t result (with_task m running.new chosen.new) }
+    requires { (m : Monitor) × (StoreReads requirement.now levels.now made.now running.old chosen.old s t m × NeedIn m.plant.task_rights t m.plant.groups need) }
+    ensures { (m : Monitor) → StoreReads requirement.now levels.now made.now running.old chosen.old s t m
+        → NeedIn m.plant.task_rights t m.plant.groups need → LateDone m s t result (with_task m running.new chosen.new) }
 {
     let mut row = [255u8; 8];
     let number = choose_row(
@@ -84,7 +84,14 @@ pub fn start_at(m: &mut Monitor, made: &mut [u8; 128], needs: &mut [u16; 16], s:
         tasks: m.plant.tasks,
         skids: m.plant.skids,
     };
-    let early = start_early(counts, &m.plant.skid_tasks, &m.running, s, t);
+    let early = start_early(
+        &m.plant.skid_tasks,
+        &m.running,
+        counts.skids,
+        counts.tasks,
+        s,
+        t,
+    );
     if early != 0 {
         return early;
     }

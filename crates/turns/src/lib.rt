@@ -4,8 +4,8 @@
 
 ghost use Rattle.std.specs.Prelude.{◌≡◌, true};
 ghost use Rattle.rules.specs.Record.{intact};
-ghost use Rattle.calls.specs.Kept.{Tables, Granted};
-ghost use Rattle.calls.specs.Lent.{call_by, Does};
+ghost use Rattle.calls.specs.Work.{Granted};
+ghost use Rattle.calls.specs.Lent.{call_by, Does, Tables};
 
 use calls::PlantCounts;
 use gates::gate_granted;
@@ -28,10 +28,10 @@ pub fn turn(
 ) -> u8
     requires passes_test_20 { intact m.old.plant m.old ≡ true }
     requires tables { Tables m.old.plant made.old needs.old }
-    requires granted { Granted m.old.plant m.old.running granted.old }
+    requires granted { Granted m.old.plant.task_rights m.old.running m.old.plant.skids granted.old }
     ensures does { Does m.old (call_by kind a b c d) result m.new }
     ensures tables { Tables m.old.plant made.new needs.new }
-    ensures granted { Granted m.old.plant m.new.running granted.new }
+    ensures granted { Granted m.old.plant.task_rights m.new.running m.old.plant.skids granted.new }
 {
     let counts = PlantCounts {
         lattices: m.plant.lattices,

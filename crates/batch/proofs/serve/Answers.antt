@@ -4,7 +4,8 @@ use Rattle.std.proofs.Math.ListN.{length-set}
 use Rattle.plant.specs.declared.Plant.{Plant}
 use Rattle.plant.proofs.Sound.{sound_law}
 use Rattle.plant.proofs.Valid.{valid}
-use Rattle.calls.specs.Kept.{Tables, Granted}
+use Rattle.calls.specs.Work.{Granted}
+use Rattle.calls.specs.Lent.{Tables}
 use Rattle.calls.proofs.Made.{none_made}
 use Rattle.calls.proofs.Grants.{none_granted}
 use Rattle.calls.proofs.Steps.{plant_kept}
@@ -20,7 +21,7 @@ loop-i-init c =
       state = first_record p c.args.bytes.now;
       answers = first_out p c.args.bytes.now c.args.out.now;
       tables = none_made _;
-      grants = none_granted p (valid p ((sound_law p).0 c.requires.plant_passes)).counts.skids_fit;
+      grants = none_granted p.task_rights p.skids (valid p ((sound_law p).0 c.requires.plant_passes)).counts.skids_fit;
     }
 
 pub turn-requires : goal.turn-requires
@@ -40,7 +41,7 @@ loop-i-preserved c =
       state = next_record p c.requires.plant_passes bytes c.loop-i.i v.state h.leaves;
       answers = next_out p c.requires.plant_passes bytes c.loop-i.i v.state c.args.out.now (omega arith) v.answers h.answers;
       tables = subst (λ (P : Plant). Tables P c.turn.new.made c.turn.new.needs) (plant_kept h) c.turn.ensures.tables;
-      grants = subst (λ (P : Plant). Granted P c.turn.new.m.running c.turn.new.granted) (plant_kept h) c.turn.ensures.granted;
+      grants = subst (λ (P : Plant). Granted P.task_rights c.turn.new.m.running P.skids c.turn.new.granted) (plant_kept h) c.turn.ensures.granted;
     }
 
 pub returns : goal.returns

@@ -1,9 +1,8 @@
 -- The early tests, and the row and its number, are the rules'.
-use Rattle.std.proofs.Common.{refl}
 use native.Mathlib.Nat.{lt_of_lt_of_le}
 use Rattle.calls.proofs.Ready.{plant_valid, links_there, groups_counted, levels_there}
 use Rattle.calls.proofs.Made.{all_made}
-use Rattle.calls.proofs.Own.{own_early, own_wishes, own_store}
+use Rattle.calls.proofs.Own.{own_wishes, own_store}
 use Rattle.calls.proofs.Late.{table_looked}
 use Rattle.calls.proofs.Start.{passed, refused_early, done_late}
 use Rattle.starts.proofs.start_at.Goals as goal
@@ -11,7 +10,7 @@ use Rattle.starts.proofs.start_at.Goals as goal
 pub returns-then-early-ne0-clause-does : goal.returns-then-early-ne0-clause-does
 returns-then-early-ne0-clause-does c =
     let i = c.requires.passes_test_20 in
-    refused_early _ c.args.s c.args.t (c.start_early-early.ensures _ (own_early _ i)) c.if-early-ne0.true
+    refused_early _ i c.args.s c.args.t c.start_early-early.ensures c.if-early-ne0.true
 
 pub make_choices-requires-clause-counts_in : goal.make_choices-requires-clause-counts_in
 make_choices-requires-clause-counts_in c =
@@ -28,36 +27,39 @@ make_choices-requires-clause-groups_in c = groups_counted _ c.requires.passes_te
 pub make_choices-requires-clause-levels_in : goal.make_choices-requires-clause-levels_in
 make_choices-requires-clause-levels_in c = levels_there _ c.requires.passes_test_20
 
-pub need_once-need-requires : goal.need_once-need-requires
-need_once-need-requires c =
-    let i = c.requires.passes_test_20 in
-    let f = (plant_valid _ i).counts in
-    let there = passed _ c.args.s c.args.t (c.start_early-early.ensures _ (own_early _ i)) c.if-early-ne0.false in
+pub start_early-early-requires : goal.start_early-early-requires
+start_early-early-requires c = let f = (plant_valid _ c.requires.passes_test_20).counts in (f.skids_fit, f.tasks_fit)
+
+pub need_once-need-requires-clause-t_bound : goal.need_once-need-requires-clause-t_bound
+need_once-need-requires-clause-t_bound c =
+    let f = (plant_valid _ c.requires.passes_test_20).counts in
+    let there = passed _ _ _ _ c.args.s c.args.t c.start_early-early.ensures c.if-early-ne0.false in
     (lt_of_lt_of_le there.1 f.tasks_fit, f.groups_fit)
+
+pub need_once-need-requires-clause-needed : goal.need_once-need-requires-clause-needed
+need_once-need-requires-clause-needed c = c.requires.tables.tasks
 
 pub start_late-requires : goal.start_late-requires
 start_late-requires c =
     let i = c.requires.passes_test_20 in
-    let there = passed _ c.args.s c.args.t (c.start_early-early.ensures _ (own_early _ i)) c.if-early-ne0.false in
-    let t = c.requires.tables.tasks in (
+    let there = passed _ _ _ _ c.args.s c.args.t c.start_early-early.ensures c.if-early-ne0.false in
+    (
       _,
       (
         own_store _ i c.args.s c.args.t there (table_looked (own_wishes _ i c.args.s c.args.t there) c.make_choices.ensures),
-        (c.need_once-need.ensures c.args.m.now.plant (record { rights_are = refl; groups_are = refl }) t).0,
+        c.need_once-need.ensures.0,
       ),
     )
 
 pub returns-clause-does : goal.returns-clause-does
 returns-clause-does c =
     let i = c.requires.passes_test_20 in
-    let e = c.start_early-early.ensures _ (own_early _ i) in
-    let there = passed _ c.args.s c.args.t e c.if-early-ne0.false in
-    let t = c.requires.tables.tasks in
-    done_late _ c.args.s c.args.t e c.if-early-ne0.false (c.start_late.ensures _
+    let e = c.start_early-early.ensures in
+    let there = passed _ _ _ _ c.args.s c.args.t e c.if-early-ne0.false in
+    done_late _ i c.args.s c.args.t e c.if-early-ne0.false (c.start_late.ensures _
     (own_store _ i c.args.s c.args.t there (table_looked (own_wishes _ i c.args.s c.args.t there) c.make_choices.ensures))
-    (c.need_once-need.ensures c.args.m.now.plant (record { rights_are = refl; groups_are = refl }) t).0)
+    c.need_once-need.ensures.0)
 
 pub returns-clause-tables : goal.returns-clause-tables
 returns-clause-tables c =
-    let t = c.requires.tables.tasks in
-    all_made c.make_choices.ensures (c.need_once-need.ensures c.args.m.now.plant (record { rights_are = refl; groups_are = refl }) t).1
+    all_made c.make_choices.ensures c.need_once-need.ensures.1

@@ -23,7 +23,7 @@ returns-then-number-eq0-clause-granted c =
     let f = (plant_valid _ c.requires.passes_test_20).counts in
     let d = c.start_at-number.ensures.does in
     let l = start_items _ c.requires.granted c.args.a c.args.b f.skids_fit f.tasks_fit d c.if-number-eq0.true in
-    rw (c.grant_row.ensures c.args.m.now.plant (rw (plant_kept d))) (start_granted _ c.requires.granted c.args.a c.args.b l d c.if-number-eq0.true)
+    rw (c.grant_row.ensures, ← plant_kept d) (start_granted _ c.requires.granted c.args.a c.args.b l d c.if-number-eq0.true)
 
 pub returns-else-number-eq0-clause-granted : goal.returns-else-number-eq0-clause-granted
 returns-else-number-eq0-clause-granted c = start_refused _ c.requires.granted c.args.a c.args.b c.start_at-number.ensures.does c.if-number-eq0.false
