@@ -11,21 +11,21 @@ use Rattle.base.specs.Overlay.{overlay}
 use Rattle.base.proofs.Overlaid.{overlay_at, overlay_past, overlay_length}
 use Rattle.plant.specs.declared.Plant.{Plant}
 use Rattle.plant.specs.Checks.{plant_refusal, Sound}
-use Rattle.plant.proofs.Valid.{valid}
 use Rattle.opening.specs.Reading.{reading_of}
 use Rattle.opening.specs.Admitted.{Admitted}
 use Rattle.opening.proofs.Opening.{opens}
+use Rattle.rules.specs.declared.Monitor.{Monitor}
 use Rattle.rules.specs.Rules.{Call, gate, unknown, answer}
-use Rattle.rules.specs.Record.{fresh, reply, final, view_of}
+use Rattle.rules.specs.Record.{fresh, reply, final, view_of, intact}
 use Rattle.rules.specs.History.{history_answers, history, history_view}
 use Rattle.rules.specs.Rights.{Gives}
 use Rattle.rules.specs.Demand.{Demand3}
 use Rattle.rules.proofs.Demand.{demand3}
 use Rattle.rules.proofs.Accepted.{gate_zero}
+use Rattle.rules.proofs.Agree.{fresh_agree, list_agree}
 use Rattle.calls.proofs.Served.{runs_length, calls_length, calls_at}
 use Rattle.listing.specs.Held.{HeldRight, Lists, rights_held, right_bytes, listing}
-use Rattle.listing.proofs.Listed.{HeldIn, lists_same, rights_listed, bytes_length, bytes_at}
-use Rattle.listing.proofs.Bound.{held_at_most}
+use Rattle.listing.proofs.Listed.{HeldIn, lists_same, rights_listed, bytes_length, bytes_at, held_at_most}
 use Rattle.outcome.specs.Batch.{request_count, refusal_by, batch_refusal, outcome, batch_out}
 use Rattle.outcome.specs.Served.{Admits, none, P, calls, held, Served, Batch}
 use Rattle.outcome.proofs.Outcome.{same_answers, same_rights}
@@ -54,7 +54,11 @@ module _ (P : Plant) (q : plant_refusal true true P ≡ 0) (W : Sound P) (cs : L
   listed_gates = lists_same (Gives P (history P [] cs)) _ _ (λ s o r. ((D.gates s o r).1, (D.gates s o r).0)) listed_gives
 
   short : length (rights_held P (history_view P (history P [] cs))) ≤ 192
-  short = held_at_most P (history_view P (history P [] cs)) (valid P W)
+  short =
+      let A = list_agree P W cs (fresh P) [] (fresh_agree P W) in
+      let m : Monitor = final (fresh P) cs in
+      subst (λ (l : List HeldRight). length l ≤ 192) (same_rights P q cs)
+      (subst (λ (p : Plant). length (rights_held p (view_of p m)) ≤ 192) A.kept (held_at_most m (subst (λ (p : Plant). intact p m ≡ true) (sym A.kept) D.never_20)))
 
   answered : length (history_answers P [] cs) ≡ length cs
   answered = ap length (sym (same_answers P q cs)) ∙ runs_length cs (fresh P)

@@ -13,14 +13,15 @@ use Rattle.plant.specs.Checks.{plant_refusal, Sound}
 use Rattle.plant.proofs.Sound.{sound_law}
 use Rattle.rules.specs.declared.Monitor.{Monitor}
 use Rattle.rules.specs.Rules.{Call, View}
-use Rattle.rules.specs.Record.{fresh, view_of, final}
+use Rattle.rules.specs.Record.{fresh, view_of, intact, final}
 use Rattle.rules.specs.Run.{runs, ends}
 use Rattle.rules.specs.History.{history_view, history_answers, history}
 use Rattle.rules.proofs.Agree.{fresh_agree, list_agree, list_replies}
 use Rattle.calls.specs.RequestBytes.{calls_of}
-use Rattle.calls.proofs.Served.{once, runs_length, calls_length}
+use Rattle.calls.proofs.Served.{once, still_intact, runs_length, calls_length}
 use Rattle.listing.specs.Held.{HeldRight, rights_held, listing}
-use Rattle.listing.specs.Parts.{held_rights}
+use Rattle.listing.specs.Work.{Known, list_bytes_in}
+use Rattle.listing.proofs.Listed.{known, written_listing}
 use Rattle.outcome.specs.Batch.{outcome}
 
 module _ (P : Plant) (q : plant_refusal true true P ≡ 0) (cs : List Call) where
@@ -51,6 +52,12 @@ module _ (P : Plant) (q : plant_refusal true true P ≡ 0) (bytes : List ℕ) (n
   unfolding fresh
   own_plant = ap (λ (x : Monitor). x.plant) e ∙ (once P q cs).same_plant
 
+  i : intact m.plant m ≡ true
+  i = still_intact P q bytes n e
+
+  pub rights_known : Known m.plant.tank_group m.running m.plant.skids m.plant.tanks
+  rights_known = known m i
+
   answered : length (runs (fresh P) cs) ≡ n
   answered = runs_length cs (fresh P) ∙ calls_length bytes n
 
@@ -63,11 +70,12 @@ module _ (P : Plant) (q : plant_refusal true true P ≡ 0) (bytes : List ℕ) (n
     room_left = omega (arith, as_long, length-take (length out₁ - n) (drop n out₁), length-drop n out₁)
 
     -- ys is the rest of the buffer with the list of rights in it
-    pub outcome_out : {ys : List ℕ} → ys ≡ overlay (take (length out₁ - n) (drop n out₁)) 0 (listing (held_rights m)) → take n out₁ ++ (ys ++ drop (length out₁ - n) (drop n out₁)) ≡ overlay out 0 (outcome P cs)
+    pub outcome_out : {ys : List ℕ} → ys ≡ overlay (take (length out₁ - n) (drop n out₁)) 0 (list_bytes_in m.plant.tank_group m.plant.task_rights m.running m.chosen m.plant.skids m.plant.tanks) → take n out₁ ++ (ys ++ drop (length out₁ - n) (drop n out₁)) ≡ overlay out 0 (outcome P cs)
     outcome_out {ys} w =
-        let ws : List ℕ = listing (held_rights m) in
+        let ws : List ℕ = list_bytes_in m.plant.tank_group m.plant.task_rights m.running m.chosen m.plant.skids m.plant.tanks in
         let answers : List ℕ = runs (fresh P) cs in
         let at : 0 + length answers ≡ n = omega (arith, answered) in
         overlay_part out₁ n ws ys (omega (arith, as_long)) w
         ∙ ap₂ (λ (l : List ℕ) (k : ℕ). overlay l k ws) h (sym at) ∙ overlay_append out 0 answers ws (omega (arith, answered))
+        ∙ ap (λ (l : List ℕ). overlay out 0 (answers ++ l)) (written_listing m i)
         ∙ ap (overlay out 0) (ap (λ (p : Plant). answers ++ listing (rights_held p (view_of p m))) own_plant ∙ outcome_is P q cs m e)
