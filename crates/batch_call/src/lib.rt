@@ -8,7 +8,6 @@ ghost use Rattle.calls.specs.RequestBytes.{calls_of};
 ghost use Rattle.outcome.specs.Batch.{refusal_by, outcome, batch_refusal, batch_out};
 
 use batch::serve;
-use calls::PlantCounts;
 use held::write_held;
 use plant::Plant;
 use reader::read;
@@ -20,20 +19,13 @@ fn write_outcome(p: Plant, requests: &[u8], n: usize, out: &mut [u8])
     ensures { out.new ≡ overlay out.old 0 (outcome p (calls_of requests.now n)) }
 {
     let m = serve(p, requests, n, out);
-    let counts = PlantCounts {
-        lattices: m.plant.lattices,
-        requirements: m.plant.requirements,
-        groups: m.plant.groups,
-        tanks: m.plant.tanks,
-        tasks: m.plant.tasks,
-        skids: m.plant.skids,
-    };
     write_held(
-        counts,
         &m.plant.tank_group,
         &m.plant.task_rights,
         &m.running,
         &m.chosen,
+        m.plant.skids,
+        m.plant.tanks,
         &mut out[n..],
     );
 }
