@@ -1,10 +1,10 @@
 -- Test 20 passes all along a history. Assumes nothing.
 use mathlib.Core.Path.{◌≡◌, refl}
 use Prim.Native.Nat.{ℕ, ◌<◌}
-use mathlib.Core.Bool.{true, not, ◌&&◌, ◌||◌, or-true}
+use mathlib.Core.Bool.{Bool, true, false, cond, not, ◌&&◌, ◌||◌, or-true}
 use mathlib.Core.List.{List, [], ◌∷◌}
 use lib.Dec.{eqb, ltb}
-use borrow.Author.Tests.{eq-eqb, lt-ltb, not-false}
+use borrow.Author.Tests.{eq-eqb, eqb-true, lt-ltb, not-false}
 use Rattle.base.specs.Below.{all_below}
 use Rattle.plant.specs.declared.Plant.{Plant}
 use Rattle.choice.specs.Choice.{unset}
@@ -14,8 +14,7 @@ use Rattle.choice.specs.Choice.{served, choice}
 use Rattle.rules.specs.Rules.{Call, set, start, stop, gate, unknown, pick_for, lacking}
 use Rattle.rules.specs.Intact.{level_ok, task_ok, tank_ok, intact_view}
 use Rattle.rules.specs.History.{history_level, LastStart, idle, since, last_start, history_view}
-use Rattle.base.proofs.Logic.{split, and_intro, and_both, and_true}
-use Rattle.rules.proofs.Pairs.{same}
+use Rattle.base.proofs.Logic.{split, and_intro, and_both, and_true, or_right}
 use Rattle.base.proofs.Below.{any_no, all_yes}
 use Rattle.rules.proofs.Kept.{AllAccepted}
 use Rattle.rules.proofs.Accepted.{set_ok, StartOk}
@@ -23,15 +22,20 @@ use Rattle.rules.proofs.Rights.{started_runs, start_was}
 use Rattle.choice.proofs.Choice.{choice_is}
 
 module _ (P : Plant) where
+  -- of two levels one is a level of its lattice or unset where each is
+  one_of : (b : Bool) (d v w : ℕ) → (b ≡ true → ltb v (levels_of P d) ≡ true) → eqb w unset || ltb w (levels_of P d) ≡ true → eqb (cond b v w) unset || ltb (cond b v w) (levels_of P d) ≡ true
+  one_of true d v w f h = or_right (eqb v unset) (ltb v (levels_of P d)) (f refl)
+  one_of false d v w f h = h
+
+  level_fits : (d d' v : ℕ) → eqb d d' ≡ true → v < levels_of P d' → ltb v (levels_of P d) ≡ true
+  level_fits d d' v e l = rw (eqb-true d d' e, lt-ltb v (levels_of P d') l)
+
   level_intact : (a : List Call) → AllAccepted P a → (s t d : ℕ) → eqb (history_level a s t d) unset || ltb (history_level a s t d) (levels_of P d) ≡ true
   unfolding history_level
   level_intact [] S s t d = refl
-  level_intact (set s' t' d' v ∷ a) S s t d = split (eqb s s' && (eqb t t' && eqb d d'))
-      (λ y. let p = and_true (eqb s s') (eqb t t' && eqb d d') y in
-      let q = same t d t' d' p.1 in
-      let k = set_ok P (history_view P a) s' t' d' v S.0 in
-      rw (y, q.1, lt-ltb v (levels_of P d') k.lev, or-true))
-      (λ n. rw n (level_intact a S.1 s t d))
+  level_intact (set s' t' d' v ∷ a) S s t d = one_of _ d v (history_level a s t d)
+      (λ y. level_fits d d' v (and_true _ _ (and_true _ _ y).1).1 (set_ok P (history_view P a) s' t' d' v S.0).lev)
+      (level_intact a S.1 s t d)
   level_intact (start s' t' ∷ a) S s t d = level_intact a S.1 s t d
   level_intact (stop s' ∷ a) S s t d = level_intact a S.1 s t d
   level_intact (gate s' o r ∷ a) S s t d = level_intact a S.1 s t d
