@@ -114,7 +114,7 @@ module _ {requirement levels made : List ℕ} {s t : ℕ} {m : Monitor} (R : Lat
   same_unset : any_below (blank_in requirement levels s t (bit need)) 8 ≡ any_below (λ g. needs P t g && level_unset m s t g) P.groups
   same_unset =
       any_same 8 (blank_in requirement levels s t (bit need)) (λ g. bit need g && level_unset m s t g)
-          (λ g l. split (bit need g) (λ b. rw (b, is_wish R.wishes g (there g b).0)) (λ b. rw b))
+      (λ g l. split (bit need g) (λ b. rw (b, is_wish R.wishes g (there g b).0)) (λ b. rw b))
       ∙ over_groups (level_unset m s t)
 
   -- no level of the set is unset: the table has the choices
@@ -135,7 +135,7 @@ module _ {requirement levels made : List ℕ} {s t : ℕ} {m : Monitor} (R : Lat
     same_lacking : any_below (lacking_in (made_at made) requirement levels s t (bit need)) 8 ≡ any_below (λ g. needs P t g && no_tank m s t g) P.groups
     same_lacking =
         any_same 8 (lacking_in (made_at made) requirement levels s t (bit need)) (λ g. bit need g && no_tank m s t g)
-            (λ g l. split (bit need g) (λ b. rw (b, same_found g b) (none_served g (there g b).0)) (λ b. rw b))
+        (λ g l. split (bit need g) (λ b. rw (b, same_found g b) (none_served g (there g b).0)) (λ b. rw b))
         ∙ over_groups (no_tank m s t)
 
     same_pick : (g : ℕ) → cond (bit need g) (found g) 255 ≡ cond (bit need g) (tank_for m s t g) 255

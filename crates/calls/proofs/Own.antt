@@ -5,7 +5,7 @@ use mathlib.Core.Bool.{true}
 use mathlib.Core.List.{List}
 use Rattle.rules.specs.declared.Monitor.{Monitor}
 use Rattle.rules.specs.Record.{intact}
-use Rattle.calls.specs.Lent.{plant_counts, Passed, StopReads, GateReads}
+use Rattle.calls.specs.Lent.{plant_counts, Passed, StopReads}
 use Rattle.calls.specs.Start.{WishReads, SearchReads, Looked, StoreReads}
 
 module _ (m : Monitor) (i : intact m.plant m ≡ true) where
@@ -14,9 +14,6 @@ module _ (m : Monitor) (i : intact m.plant m ≡ true) where
 
   pub own_stop : StopReads (plant_counts m.plant) m.running m.chosen m
   own_stop = record { passed = own_passed; running_is = refl; chosen_is = refl }
-
-  pub own_gate : GateReads (plant_counts m.plant) m.plant.tank_group m.plant.task_rights m.running m.chosen m
-  own_gate = record { passed = own_passed; group_is = refl; rights_are = refl; running_is = refl; chosen_is = refl }
 
   -- for a skid and a task that are there
   module _ (s t : ℕ) (l : (s < m.plant.skids) × (t < m.plant.tasks)) where

@@ -42,8 +42,7 @@ need_once-need-requires-clause-needed c = c.requires.tables.tasks
 pub start_late-requires : goal.start_late-requires
 start_late-requires c =
     let i = c.requires.passes_test_20 in
-    let there = passed _ _ _ _ c.args.s c.args.t c.start_early-early.ensures c.if-early-ne0.false in
-    (
+    let there = passed _ _ _ _ c.args.s c.args.t c.start_early-early.ensures c.if-early-ne0.false in (
       _,
       (
         own_store _ i c.args.s c.args.t there (table_looked (own_wishes _ i c.args.s c.args.t there) c.make_choices.ensures),
