@@ -31,7 +31,7 @@ fn write_outcome(p: Plant, requests: &[u8], n: usize, out: &mut [u8])
 }
 
 // The number that refuses a batch: opening's, then 34 for request bytes that are no multiple of five, then 31 for a buffer under n + 577 bytes.
-fn batch_refusal(opening: u8, bytes: usize, room: usize) -> u8
+fn refusal(opening: u8, bytes: usize, room: usize) -> u8
     ensures { result ≡ refusal_by opening bytes room }
 {
     if opening != 0 {
@@ -53,7 +53,7 @@ pub fn call_batch(plant: &[u8], requests: &[u8], out: &mut [u8]) -> u8
         × (out.new ≡ batch_out plant.now requests.now out.old) }
 {
     let reading = read(plant);
-    let number = batch_refusal(reading.answer, requests.len(), out.len());
+    let number = refusal(reading.answer, requests.len(), out.len());
     if number != 0 {
         return number;
     }

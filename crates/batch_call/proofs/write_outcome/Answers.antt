@@ -1,14 +1,9 @@
 -- The answers, and behind them the list of rights.
-use Rattle.outcome.proofs.Outcome.{rights_known, room_left, outcome_out}
+use Rattle.outcome.proofs.Outcome.{rights_known, outcome_out}
 use Rattle.batch_call.proofs.write_outcome.Goals as goal
 
-pub write_held-requires : goal.write_held-requires
-write_held-requires c =
-    let e = c.serve-m.ensures in
-    record {
-      known = rights_known _ c.requires.plant_passes _ _ e.record_after;
-      in_bounds = room_left _ c.requires.plant_passes _ _ e.record_after _ c.requires.in_range.1 e.answers;
-    }
+pub write_held-requires-clause-known : goal.write_held-requires-clause-known
+write_held-requires-clause-known c = rights_known _ c.requires.plant_passes _ _ c.serve-m.ensures.record_after
 
 pub returns : goal.returns
 returns c = let e = c.serve-m.ensures in outcome_out _ c.requires.plant_passes _ _ e.record_after _ c.requires.in_range.1 e.answers c.write_held.ensures
