@@ -1,9 +1,9 @@
 -- What a start finds at its groups is what the rules say, on every record that has the parts lent to it. Assumes nothing.
-use mathlib.Core.Path.{◌≡◌, sym, ap, ◌∙◌}
+use mathlib.Core.Path.{◌≡◌, refl, sym, ap, ◌∙◌}
 use mathlib.Core.Logic.{◌≢◌}
 use Prim.Native.Nat.{ℕ, ◌+◌, ◌*◌, ◌<◌}
 use native.Mathlib.Omega.{arith}
-use mathlib.Core.Bool.{Bool, true, false, cond, not, ◌&&◌, and_assoc}
+use mathlib.Core.Bool.{Bool, true, false, cond, not, ◌&&◌}
 use mathlib.Core.List.{List}
 use lib.Dec.{eqb, ltb}
 use lib.ListN.{get_or, replicate, length-replicate}
@@ -12,7 +12,7 @@ use Rattle.base.specs.Below.{any_below}
 use Rattle.base.specs.Bits.{bit}
 use Rattle.base.specs.Chain.{first}
 use Rattle.base.proofs.Logic.{split, and_true}
-use Rattle.base.proofs.Below.{any_no, any_same, any_upto}
+use Rattle.base.proofs.Below.{any_no, any_same}
 use Rattle.base.proofs.Filled.{fill_at}
 use Rattle.plant.specs.declared.Plant.{Plant}
 use Rattle.plant.specs.Plant.{requirement_of, needs}
@@ -26,6 +26,7 @@ use Rattle.calls.specs.Work.{level_known, made_at, wish_in, found_in, blank_in, 
 use Rattle.calls.specs.Lent.{Choices}
 use Rattle.calls.specs.Start.{WishReads, LateReads, Looked, NeedsAt, wish_of, late_tests}
 use Rattle.calls.proofs.Groups.{Eight}
+use Rattle.calls.proofs.Made.{reached, over_groups}
 use Rattle.calls.proofs.Known.{known}
 use Rattle.calls.proofs.Ready.{plant_valid, level_there}
 use Rattle.calls.proofs.Views.{level_is}
@@ -84,8 +85,8 @@ module _ {requirement levels : List ℕ} {s t : ℕ} {m : Monitor} (W : WishRead
     pub below_eight : Eight need
     below_eight g e = group_fits g (group_there g e).0
 
-    pub reached : Reached requirement levels s t need
-    reached g e = let l = (group_there g e).0 in (group_fits g l, (requirement_fits g l, stored_known g l))
+    pub all_reached : Reached requirement levels s t need
+    all_reached = rw (← W.requirement_is, ← W.levels_are) (reached m W.passes s t need W.skid W.task n)
 
   -- a table of all choices has what a start looks up
   pub table_looked : {made : List ℕ} → Choices m.plant made → Looked m s t made
@@ -106,16 +107,14 @@ module _ {requirement levels made : List ℕ} {s t : ℕ} {m : Monitor} (R : Lat
   there = group_there R.wishes need n
 
   -- a test of the groups of the set, and one of the groups that the task needs
-  over_groups : (p : ℕ → Bool) → any_below (λ g. bit need g && p g) 8 ≡ any_below (λ g. needs P t g && p g) P.groups
-  over_groups p =
-      any_same 8 (λ g. bit need g && p g) (λ g. ltb g P.groups && (needs P t g && p g)) (λ g l. ap (λ x. x && p g) (n g) ∙ and_assoc (ltb g P.groups) (needs P t g) (p g))
-      ∙ any_upto 8 P.groups (λ g. needs P t g && p g) X.counts.groups_fit
+  over_needed : (p : ℕ → Bool) → any_below (λ g. bit need g && p g) 8 ≡ any_below (λ g. needs P t g && p g) P.groups
+  over_needed p = let W = R.wishes in over_groups m W.passes s t need W.skid W.task n p (λ g. needs P t g && p g) (λ g l. refl)
 
   same_unset : any_below (blank_in requirement levels s t (bit need)) 8 ≡ any_below (λ g. needs P t g && level_unset m s t g) P.groups
   same_unset =
       any_same 8 (blank_in requirement levels s t (bit need)) (λ g. bit need g && level_unset m s t g)
       (λ g l. split (bit need g) (λ b. rw (b, is_wish R.wishes g (there g b).0)) (λ b. rw b))
-      ∙ over_groups (level_unset m s t)
+      ∙ over_needed (level_unset m s t)
 
   -- no level of the set is unset: the table has the choices
   module _ (z : any_below (blank_in requirement levels s t (bit need)) 8 ≡ false) where
@@ -136,7 +135,7 @@ module _ {requirement levels made : List ℕ} {s t : ℕ} {m : Monitor} (R : Lat
     same_lacking =
         any_same 8 (lacking_in (made_at made) requirement levels s t (bit need)) (λ g. bit need g && no_tank m s t g)
         (λ g l. split (bit need g) (λ b. rw (b, same_found g b) (none_served g (there g b).0)) (λ b. rw b))
-        ∙ over_groups (no_tank m s t)
+        ∙ over_needed (no_tank m s t)
 
     same_pick : (g : ℕ) → cond (bit need g) (found g) 255 ≡ cond (bit need g) (tank_for m s t g) 255
     same_pick g = split (bit need g) (λ b. rw (b, same_found g b)) (λ b. rw b)

@@ -11,4 +11,5 @@ pub mod Late
 pub mod Searched
 pub mod Steps
 pub mod Start
+pub mod Store
 pub mod Served

@@ -19,7 +19,7 @@ use Rattle.choice.specs.Choice.{unset}
 use Rattle.rules.specs.declared.Monitor.{Monitor}
 use Rattle.rules.specs.Rules.{Call, set, start, stop, gate, unknown, skid_of, View, holds, conditions, refusal, accepted_answer, answer}
 use Rattle.rules.specs.Record.{view_of, level_at, fill_from, changed, stepped, with_levels, with_task}
-use Rattle.rules.proofs.Accepted.{gate_ok}
+use Rattle.rules.proofs.Accepted.{GateOk, gate_ok}
 use Rattle.calls.specs.declared.PlantCounts.{PlantCounts}
 use Rattle.calls.specs.Work.{task_known, held_in, granted_in, get_row}
 use Rattle.calls.specs.Lent.{plant_counts, Does, Passed, SetReads, StopReads, GateReads, GrantReads}
@@ -124,74 +124,98 @@ item_missing {n} s o r e P vs h z = e ∙ sym (rw (gate_tests s o r P vs h)
     (λ a. rw a (split (leb n.tanks o) (λ b. rw b)
     (λ b. rw b (split (leb rights r) (λ c. rw c) (λ c. absurd (z (gate_tests s o r P vs h ∙ rw (a, b, c))))))))))
 
--- `there` says whether they are there; and the record has the counts
-module _ {n : PlantCounts} (s o r : ℕ) {there : Bool} (t : (P : Plant) (vs : ℕ → View) → plant_counts P ≡ n → there ≡ eqb (refusal P vs (gate s o r)) 0) {m : Monitor} (p : Passed n m) where
+module _ (m : Monitor) (s o r : ℕ) where
   abbrev number : ℕ
   number = refusal m.plant (view_of m.plant m) (gate s o r)
 
-  found : there ≡ eqb number 0
-  found = t m.plant (view_of m.plant m) p.counts
-
-  accepted : not there ≡ false → number ≡ 0
-  accepted h = eqb-true number 0 (sym found ∙ not-false there h)
-
   -- a gate leaves the record, refused or not
-  leaves : m ≡ stepped m.plant m (gate s o r)
+  gate_leaves : m ≡ stepped m.plant m (gate s o r)
   unfolding stepped changed
-  leaves = split (eqb number 0) (λ h. rw h) (λ h. rw h)
+  gate_leaves = split (eqb number 0) (λ h. rw h) (λ h. rw h)
 
-  pub gate_refused : not there ≡ true → {x : ℕ} → ((P : Plant) (vs : ℕ → View) → plant_counts P ≡ n → refusal P vs (gate s o r) ≢ 0 → x ≡ refusal P vs (gate s o r)) → Does m (gate s o r) x m
+  pub gate_shut : {x : ℕ} → x ≡ number → number ≢ 0 → Does m (gate s o r) x m
   unfolding answer
-  gate_refused h e =
-      let z = eqb-false number 0 (sym found ∙ not-true there h) in
-      record { answers = e m.plant (view_of m.plant m) p.counts z ∙ sym (rw (ne_eqb number 0 z)); leaves = leaves }
+  gate_shut e n = record { answers = e ∙ sym (rw (ne_eqb number 0 n)); leaves = gate_leaves }
 
-  gate_answers : not there ≡ false → {held : Bool} {x : ℕ} → held ≡ holds m.plant (view_of m.plant m s) o r → x ≡ cond (not held) 33 0 → Does m (gate s o r) x m
+  pub gate_opens : number ≡ 0 → holds m.plant (view_of m.plant m s) o r ≡ true → Does m (gate s o r) 0 m
   unfolding answer accepted_answer
-  gate_answers h {held} e k = record { answers = k ∙ sym (rw (accepted h, ← e) (split held (λ y. rw y) (λ y. rw y))); leaves = leaves }
+  gate_opens z e = record { answers = sym (rw (z, e)); leaves = gate_leaves }
 
-  items : not there ≡ false → (s < n.skids) × (o < n.tanks)
-  items h = let k = gate_ok m.plant (view_of m.plant m) s o r (accepted h) in (omega (arith, k.skid, skids_are p), omega (arith, k.tank, tanks_are p))
+  pub gate_says_no : number ≡ 0 → holds m.plant (view_of m.plant m s) o r ≡ false → Does m (gate s o r) 33 m
+  unfolding answer accepted_answer
+  gate_says_no z e = record { answers = sym (rw (z, e)); leaves = gate_leaves }
 
--- a gate whose items are there answers by what is lent: what is_held and is_granted ask for, and that they tell what the rules say
-module _ {n : PlantCounts} (s o r : ℕ) {there : Bool} (t : (P : Plant) (vs : ℕ → View) → plant_counts P ≡ n → there ≡ eqb (refusal P vs (gate s o r)) 0) (h : not there ≡ false) where
-  places : {group : List ℕ} {m : Monitor} → Passed n m → m.plant.tank_group ≡ group → ((s < 8) × (o < 64)) × (get_or group o 0 < 8)
-  places {m = m} p e =
-      let k = items s o r t p h in
-      let w = plant_valid m p.passes in
-      ((omega (arith, k.0, skids_fit p), omega (arith, k.1, tanks_fit p)), rw (← e) (omega (arith, w.group_in o (omega (arith, k.1, tanks_are p)), w.counts.groups_fit)))
+-- the skid and the tank are there, and the right is held by the record exactly where the rules say so
+module _ {n : PlantCounts} {group rights running chosen : List ℕ} {m : Monitor} (R : GateReads n group rights running chosen m) (s o r : ℕ)
+    (z : refusal m.plant (view_of m.plant m) (gate s o r) ≡ 0) where
+  k : GateOk m.plant (view_of m.plant m) s o r
+  k = gate_ok m.plant (view_of m.plant m) s o r z
 
-  module _ {group rights running chosen : List ℕ} where
-    pub held_requires : (m : Monitor) × GateReads n group rights running chosen m → ((s < 8) × (o < 64)) × ((get_or group o 0 < 8) × (task_known running s ≡ true))
-    held_requires x =
-        let R = x.1 in
-        let k = places R.passed R.group_is in
-        (k.0, (k.1, rw (← R.running_is) (all_at x.0.plant.skids (task_known x.0.running) (tasks_known x.0 R.passed.passes) s (omega (arith, (items s o r t R.passed h).0, skids_are R.passed)))))
+  pub held_requires : ((s < 8) × (o < 64)) × ((get_or group o 0 < 8) × (task_known running s ≡ true))
+  held_requires =
+      let w = plant_valid m R.passed.passes in (
+        (omega (arith, k.skid, w.counts.skids_fit), omega (arith, k.tank, w.counts.tanks_fit)),
+        (
+          rw (← R.group_is) (omega (arith, w.group_in o k.tank, w.counts.groups_fit)),
+          rw (← R.running_is) (all_at m.plant.skids (task_known m.running) (tasks_known m R.passed.passes) s k.skid),
+        ),
+      )
 
-    held_told : {m : Monitor} → GateReads n group rights running chosen m → held_in group rights running chosen s o r ≡ holds m.plant (view_of m.plant m s) o r
-    held_told {m} R =
-        let k = items s o r t R.passed h in
-        rw (← R.group_is, ← R.rights_are, ← R.running_is, ← R.chosen_is)
-        (held_same m R.passed.passes s o r (omega (arith, k.0, skids_are R.passed)) (omega (arith, k.1, tanks_are R.passed)))
+  pub held_told : held_in group rights running chosen s o r ≡ holds m.plant (view_of m.plant m s) o r
+  held_told = rw (← R.group_is, ← R.rights_are, ← R.running_is, ← R.chosen_is) (held_same m R.passed.passes s o r k.skid k.tank)
 
-    pub gate_by_record : {held : Bool} {x : ℕ} → held ≡ held_in group rights running chosen s o r → x ≡ cond (not held) 33 0 → (m : Monitor) → GateReads n group rights running chosen m → Does m (gate s o r) x m
-    gate_by_record e k m R = gate_answers s o r t R.passed h (e ∙ held_told R) k
+module _ {n : PlantCounts} {group granted chosen : List ℕ} {m : Monitor} (R : GrantReads n group granted chosen m) (s o r : ℕ)
+    (z : refusal m.plant (view_of m.plant m) (gate s o r) ≡ 0) where
+  ok : GateOk m.plant (view_of m.plant m) s o r
+  ok = gate_ok m.plant (view_of m.plant m) s o r z
 
-  module _ {group granted chosen : List ℕ} where
-    pub granted_requires : (m : Monitor) × GrantReads n group granted chosen m → ((s < 8) × (o < 64)) × (get_or group o 0 < 8)
-    granted_requires x = places x.1.passed x.1.group_is
+  pub granted_requires : ((s < 8) × (o < 64)) × (get_or group o 0 < 8)
+  granted_requires =
+      let w = plant_valid m R.passed.passes in (
+        (omega (arith, ok.skid, w.counts.skids_fit), omega (arith, ok.tank, w.counts.tanks_fit)),
+        rw (← R.group_is) (omega (arith, w.group_in o ok.tank, w.counts.groups_fit)),
+      )
 
-    granted_told : {m : Monitor} → GrantReads n group granted chosen m → granted_in group granted chosen s o r ≡ holds m.plant (view_of m.plant m s) o r
-    granted_told {m} R =
-        let k = items s o r t R.passed h in
-        let a : s < m.plant.skids = omega (arith, k.0, skids_are R.passed) in
-        let b : o < m.plant.tanks = omega (arith, k.1, tanks_are R.passed) in
-        rw (← R.group_is, ← R.chosen_is)
-        (same_held m.plant.tank_group m.plant.task_rights m.running m.chosen m.plant.tanks R.grants (groups_there m R.passed.passes) s o r a b
-        ∙ held_same m R.passed.passes s o r a b)
+  pub granted_told : granted_in group granted chosen s o r ≡ holds m.plant (view_of m.plant m s) o r
+  granted_told =
+      rw (← R.group_is, ← R.chosen_is)
+      (same_held m.plant.tank_group m.plant.task_rights m.running m.chosen m.plant.tanks R.grants (groups_there m R.passed.passes) s o r ok.skid ok.tank
+      ∙ held_same m R.passed.passes s o r ok.skid ok.tank)
 
-    pub gate_by_grants : {held : Bool} {x : ℕ} → held ≡ granted_in group granted chosen s o r → x ≡ cond (not held) 33 0 → (m : Monitor) → GrantReads n group granted chosen m → Does m (gate s o r) x m
-    gate_by_grants e k m R = gate_answers s o r t R.passed h (e ∙ granted_told R) k
+-- `there` says whether they are there; and the record has the counts
+module _ {n : PlantCounts} (s o r : ℕ) {there : Bool} (t : (P : Plant) (vs : ℕ → View) → plant_counts P ≡ n → there ≡ eqb (refusal P vs (gate s o r)) 0) where
+  module _ {m : Monitor} (p : Passed n m) where
+    found : there ≡ eqb (refusal m.plant (view_of m.plant m) (gate s o r)) 0
+    found = t m.plant (view_of m.plant m) p.counts
+
+    pub gate_refused : not there ≡ true → {x : ℕ} → ((P : Plant) (vs : ℕ → View) → plant_counts P ≡ n → refusal P vs (gate s o r) ≢ 0 → x ≡ refusal P vs (gate s o r)) → Does m (gate s o r) x m
+    gate_refused h e =
+        let z = eqb-false (refusal m.plant (view_of m.plant m) (gate s o r)) 0 (sym found ∙ not-true there h) in
+        gate_shut m s o r (e m.plant (view_of m.plant m) p.counts z) z
+
+  -- they are there: what is_held and is_granted ask for, and that a gate answers by what these tell
+  module _ (h : not there ≡ false) where
+    accepted : {m : Monitor} → Passed n m → refusal m.plant (view_of m.plant m) (gate s o r) ≡ 0
+    accepted {m} p = eqb-true (refusal m.plant (view_of m.plant m) (gate s o r)) 0 (sym (found p) ∙ not-false there h)
+
+    answers : {m : Monitor} → Passed n m → {held : Bool} {x : ℕ} → held ≡ holds m.plant (view_of m.plant m s) o r → x ≡ cond (not held) 33 0 → Does m (gate s o r) x m
+    answers {m} p {held} e k = split held
+        (λ y. rw (k, y) (gate_opens m s o r (accepted p) (sym e ∙ y)))
+        (λ y. rw (k, y) (gate_says_no m s o r (accepted p) (sym e ∙ y)))
+
+    module _ {group rights running chosen : List ℕ} where
+      pub held_asks : (m : Monitor) × GateReads n group rights running chosen m → ((s < 8) × (o < 64)) × ((get_or group o 0 < 8) × (task_known running s ≡ true))
+      held_asks x = held_requires x.1 s o r (accepted x.1.passed)
+
+      pub gate_by_record : {held : Bool} {x : ℕ} → held ≡ held_in group rights running chosen s o r → x ≡ cond (not held) 33 0 → (m : Monitor) → GateReads n group rights running chosen m → Does m (gate s o r) x m
+      gate_by_record e k m R = answers R.passed (e ∙ held_told R s o r (accepted R.passed)) k
+
+    module _ {group granted chosen : List ℕ} where
+      pub granted_asks : (m : Monitor) × GrantReads n group granted chosen m → ((s < 8) × (o < 64)) × (get_or group o 0 < 8)
+      granted_asks x = granted_requires x.1 s o r (accepted x.1.passed)
+
+      pub gate_by_grants : {held : Bool} {x : ℕ} → held ≡ granted_in group granted chosen s o r → x ≡ cond (not held) 33 0 → (m : Monitor) → GrantReads n group granted chosen m → Does m (gate s o r) x m
+      gate_by_grants e k m R = answers R.passed (e ∙ granted_told R s o r (accepted R.passed)) k
 
 -- a request of no known kind
 pub unknown_does : (m : Monitor) → Does m unknown 32 m

@@ -4,7 +4,7 @@ use Prim.Native.Nat.{ℕ, ◌+◌, ◌-◌, ◌≤◌}
 use mathlib.Core.Bool.{true}
 use mathlib.Core.List.{List, [], ◌++◌}
 use native.Mathlib.Omega.{arith}
-use lib.ListN.{length, take, drop}
+use lib.ListN.{length, take, drop, length-take, length-drop}
 use Rattle.base.specs.Overlay.{overlay}
 use Rattle.base.proofs.Overlaid.{overlay_part, overlay_length}
 use Rattle.base.proofs.Collected.{overlay_append}
@@ -65,6 +65,9 @@ module _ (P : Plant) (q : plant_refusal true true P ≡ 0) (bytes : List ℕ) (n
   module _ (out : List ℕ) {out₁ : List ℕ} (r : n + 577 ≤ length out) (h : out₁ ≡ overlay out 0 (runs (fresh P) cs)) where
     as_long : length out₁ ≡ length out
     as_long = ap length h ∙ overlay_length out 0 (runs (fresh P) cs) (omega (arith, answered))
+
+    pub room_left : 577 ≤ length (take (length out₁ - n) (drop n out₁))
+    room_left = omega (arith, as_long, length-take (length out₁ - n) (drop n out₁), length-drop n out₁)
 
     -- ys is the rest of the buffer with the list of rights in it
     pub outcome_out : {ys : List ℕ} → ys ≡ overlay (take (length out₁ - n) (drop n out₁)) 0 (list_bytes_in m.plant.tank_group m.plant.task_rights m.running m.chosen m.plant.skids m.plant.tanks) → take n out₁ ++ (ys ++ drop (length out₁ - n) (drop n out₁)) ≡ overlay out 0 (outcome P cs)

@@ -18,5 +18,11 @@ module _ (w v : List ℕ) (ws : List (List ℕ)) (out : List ℕ) (at : ℕ) (h 
   room : at + length (spaced w ++ line (v ∷ ws)) ≤ length out
   room = subst (λ (l : List ℕ). at + length l ≤ length out) parts h
 
+  pub first_room : at + length (spaced w) ≤ length out
+  first_room = front_room (spaced w) (line (v ∷ ws)) out at room
+
+  pub others_room : {out' : List ℕ} {at' : ℕ} → Wrote (spaced w) out at out' at' → at' + length (line (v ∷ ws)) ≤ length out'
+  others_room a = rest_room (spaced w) (line (v ∷ ws)) out at room a
+
   pub others_wrote : {out' out'' : List ℕ} {at' at'' : ℕ} → Wrote (spaced w) out at out' at' → Wrote (line (v ∷ ws)) out' at' out'' at'' → Wrote (line (w ∷ v ∷ ws)) out at out'' at''
   others_wrote a b = wrote_as (sym parts) (rest_wrote (spaced w) (line (v ∷ ws)) out at room a b)

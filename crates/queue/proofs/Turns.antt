@@ -8,10 +8,11 @@ use mathlib.Core.Bool.{Bool, true, false, cond, not}
 use mathlib.Core.List.{List, [], ◌∷◌, ◌++◌, map, map-append}
 use lib.Dec.{eqb, ltb}
 use lib.ListN.{length, get_or, take, set, length-map}
-use lib.Seq.{length-take-le, take-suc}
+use lib.Seq.{length-take-le, take-suc, take-length}
 use borrow.Author.Tests.{ltb-false}
 use Rattle.base.specs.Overlay.{overlay}
-use Rattle.base.proofs.Overlaid.{overlay_none, overlay_more}
+use Rattle.base.proofs.Logic.{split}
+use Rattle.base.proofs.Overlaid.{overlay_none, overlay_more, overlay_length}
 use Rattle.rules.specs.declared.Monitor.{Monitor}
 use Rattle.rules.specs.Rules.{Call}
 use Rattle.rules.specs.Record.{intact, after, replies, final}
@@ -20,7 +21,7 @@ use Rattle.requests.specs.declared.Answered.{Answered}
 use Rattle.requests.specs.Calls.{step_of}
 use Rattle.requests.specs.declared.Request.{Request}
 use Rattle.requests.specs.Requests.{call_of}
-use Rattle.queue.specs.Queue.{admit_of}
+use Rattle.queue.specs.Queue.{queue_refusal, admit_of, queued_calls}
 
 abbrev pub no_request : Request
 no_request = record { kind = 0; a = 0; b = 0; c = 0; d = 0 }
@@ -68,6 +69,9 @@ module _ (m : Monitor) (rs : List Request) (ys : List ℕ) where
       ap (λ (z : List ℕ). set z i r.answer) b ∙ ap (λ (k : ℕ). set (buffer i) k r.answer) (sym n)
       ∙ overlay_more ys 0 (replies m (calls rs i)) r.answer (omega (arith, n, l')) ∙ ap (overlay ys 0) (more_answers i l h e)
 
+  pub buffer_length : (i : ℕ) → i ≤ length rs → i ≤ length ys → length (buffer i) ≡ length ys
+  buffer_length i l l' = overlay_length ys 0 (replies m (calls rs i)) (omega (arith, answered i l))
+
 counted : (t u : Bool) (n room : ℕ) → u ≡ ltb room n
     → (cond (eqb (cond (not t) 20 (cond u 31 0)) 0) n 0 ≤ n) × (cond (eqb (cond (not t) 20 (cond u 31 0)) 0) n 0 ≤ room)
     × (0 < cond (eqb (cond (not t) 20 (cond u 31 0)) 0) n 0 → t ≡ true)
@@ -82,3 +86,6 @@ module _ (m : Monitor) (rs : List Request) (ys : List ℕ) where
 
   pub count_fits : (count ≤ length rs) × (count ≤ length ys) × (0 < count → intact m.plant m ≡ true)
   count_fits = counted (intact m.plant m) (ltb (length ys) (length rs)) (length rs) (length ys) refl
+
+  pub all_made : calls rs count ≡ queued_calls m rs ys
+  all_made = split (eqb (queue_refusal m (length rs) (length ys)) 0) (λ y. rw y (ap (map call_of) (take-length rs))) (λ n. rw n)

@@ -1,11 +1,16 @@
 -- The two ways out of a call: a record that fails test 20, and one that passes it. Assumes nothing.
-use mathlib.Core.Path.{◌≡◌, refl, sym}
+use mathlib.Core.Path.{◌≡◌, refl, sym, ◌∙◌}
 use Prim.Native.Nat.{ℕ}
-use mathlib.Core.Bool.{Bool, true, false}
+use mathlib.Core.Bool.{Bool, true, false, not}
+use borrow.Author.Tests.{not-false}
 use Rattle.rules.specs.declared.Monitor.{Monitor}
 use Rattle.rules.specs.Rules.{Call, answer}
 use Rattle.rules.specs.Record.{view_of, intact, stepped, reply, after}
 use Rattle.requests.specs.Calls.{step_of}
+
+-- what holds behind a test that is turned
+pub passed : (m : Monitor) {b : Bool} → b ≡ intact m.plant m → not b ≡ false → intact m.plant m ≡ true
+passed m {b} e n = sym e ∙ not-false b n
 
 module _ (m : Monitor) (c : Call) {b : Bool} (e : b ≡ intact m.plant m) where
   pub refused_20 : b ≡ false → record { answer = 20; monitor = m } ≡ step_of m c

@@ -1,6 +1,6 @@
 -- A loop that notes whether an index failed, and goes on past the n that count, where all pass. Assumes nothing.
 use Prim.Native.Nat.{ℕ, ◌+◌, ◌≤◌, min}
-use mathlib.Core.Path.{◌≡◌, sym, ◌∙◌}
+use mathlib.Core.Path.{◌≡◌, sym, ap, ◌∙◌}
 use mathlib.Core.Bool.{Bool, true, false}
 use native.Mathlib.Nat.{min-eq_left, min-eq_right}
 use native.Mathlib.Numerals.{add-one}
@@ -33,3 +33,6 @@ module _ (p : ℕ → Bool) (n : ℕ) where
           g ∙ rw (min-eq_left (let b : d ≤ n = omega arith in b), min-eq_left (let b : d + 1 ≤ n = omega arith in b)) (keeps p d (sym e ∙ h))
       | no l ↦ g ∙ rw (min-eq_right (let b : n ≤ d = omega arith in b), min-eq_right (let b : n ≤ d + 1 = omega arith in b))
     ]
+
+  pub noted_ends : (d m : ℕ) {b : Bool} → m ≤ d → n ≤ m → b ≡ all_below p (min d n) → b ≡ all_below p n
+  noted_ends d m h l g = g ∙ ap (all_below p) (min-eq_right (omega arith))

@@ -2,7 +2,8 @@
 use native.Mathlib.Nat.{lt_of_lt_of_le}
 use Rattle.calls.proofs.Own.{own_search, own_store}
 use Rattle.calls.proofs.Ready.{plant_valid}
-use Rattle.calls.proofs.Start.{passed, refused_early, done_late}
+use Rattle.calls.proofs.Start.{passed, refused_early}
+use Rattle.calls.proofs.Store.{done_late}
 use Rattle.single.proofs.start_alone.Goals as goal
 
 pub returns-then-early-ne0 : goal.returns-then-early-ne0

@@ -4,7 +4,8 @@ use Rattle.calls.proofs.Ready.{plant_valid, links_there, groups_counted, levels_
 use Rattle.calls.proofs.Made.{all_made}
 use Rattle.calls.proofs.Own.{own_wishes, own_store}
 use Rattle.calls.proofs.Late.{table_looked}
-use Rattle.calls.proofs.Start.{passed, refused_early, done_late}
+use Rattle.calls.proofs.Start.{passed, refused_early}
+use Rattle.calls.proofs.Store.{done_late}
 use Rattle.starts.proofs.start_at.Goals as goal
 
 pub returns-then-early-ne0-clause-does : goal.returns-then-early-ne0-clause-does

@@ -1,17 +1,17 @@
 -- The row and its number are the rules', and an accepted start stores them.
 use Rattle.std.proofs.Common.{refl}
-use Rattle.calls.proofs.Late.{skid_fits, task_fits_lem, reached, row_chosen}
-use Rattle.calls.proofs.Start.{refused_late, accepted_late}
+use Rattle.calls.proofs.Late.{skid_fits, task_fits_lem, all_reached, row_chosen}
+use Rattle.calls.proofs.Store.{late_refused, late_accepted}
 use Rattle.starts.proofs.start_late.Goals as goal
 
 pub choose_row-number-requires-clause-s_bound : goal.choose_row-number-requires-clause-s_bound
 choose_row-number-requires-clause-s_bound c = let W = c.requires.1.0.reads.wishes in (skid_fits W, task_fits_lem W)
 
 pub choose_row-number-requires-clause-reached : goal.choose_row-number-requires-clause-reached
-choose_row-number-requires-clause-reached c = (reached c.requires.1.0.reads.wishes c.args.need c.requires.1.1, refl)
+choose_row-number-requires-clause-reached c = (all_reached c.requires.1.0.reads.wishes c.args.need c.requires.1.1, refl)
 
 pub returns-then-number-ne0 : goal.returns-then-number-ne0
-returns-then-number-ne0 c = λ m R n. refused_late R (row_chosen R.reads c.args.need n c.choose_row-number.ensures) c.if-number-ne0.true
+returns-then-number-ne0 c = λ m R n. late_refused R (row_chosen R.reads c.args.need n c.choose_row-number.ensures) c.if-number-ne0.true
 
 pub bounds-running-s : goal.bounds-running-s
 bounds-running-s c = skid_fits c.requires.1.0.reads.wishes
@@ -20,4 +20,4 @@ pub put_row-requires : goal.put_row-requires
 put_row-requires c = skid_fits c.requires.1.0.reads.wishes
 
 pub returns : goal.returns
-returns c = λ m R n. accepted_late R (row_chosen R.reads c.args.need n c.choose_row-number.ensures) c.if-number-ne0.false refl c.put_row.ensures
+returns c = λ m R n. late_accepted R (row_chosen R.reads c.args.need n c.choose_row-number.ensures) c.if-number-ne0.false refl c.put_row.ensures

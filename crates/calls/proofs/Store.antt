@@ -1,0 +1,64 @@
+-- The rest of a start, behind 21 to 26: what it answers and stores is what the rules say, on every record that has the parts lent to it. Assumes
+-- nothing.
+use mathlib.Core.Path.{◌≡◌, refl, sym, ap, ◌∙◌}
+use mathlib.Core.Logic.{◌≢◌}
+use Prim.Native.Nat.{ℕ, ◌*◌}
+use mathlib.Core.Bool.{true, cond}
+use mathlib.Core.List.{List}
+use lib.Dec.{eqb, leb}
+use lib.ListN.{take}
+use lib.ListN as ListN
+use borrow.Author.Tests.{leb-false, ne_eqb}
+use Rattle.base.specs.Chain.{Test, first}
+use Rattle.base.proofs.Chain.{Numbered, first_append}
+use Rattle.base.proofs.Logic.{split}
+use Rattle.rules.specs.declared.Monitor.{Monitor}
+use Rattle.rules.specs.Rules.{start, conditions, refusal, accepted_answer, pick_for}
+use Rattle.rules.specs.Record.{view_of, fill_from, changed, intact, with_task}
+use Rattle.calls.specs.Work.{early_tests, get_row}
+use Rattle.calls.specs.Lent.{Does}
+use Rattle.calls.specs.Start.{late_tests, wish_of, StoreReads, LateDone}
+use Rattle.calls.proofs.Rows.{row_same}
+use Rattle.calls.proofs.Views.{running_is}
+use Rattle.calls.proofs.Late.{RowChosen}
+use Rattle.calls.proofs.Steps.{does}
+
+-- the rules' conditions up to 26
+abbrev early_conditions : Monitor → ℕ → ℕ → List Test
+early_conditions m s t = take 4 (conditions m.plant (view_of m.plant m) (start s t))
+
+module _ (m : Monitor) (i : intact m.plant m ≡ true) (s t : ℕ) where
+  -- what the code asks of the arrays up to 26
+  abbrev early : ℕ
+  early = first (early_tests m.plant.skid_tasks m.running m.plant.skids m.plant.tasks s t)
+
+  early_is : early ≡ first (early_conditions m s t)
+  unfolding conditions
+  early_is = split (leb m.plant.skids s) (λ h. rw h) (λ h. rw (h, running_is m i s (leb-false _ _ h)))
+
+  in_order : Numbered (early_conditions m s t)
+  unfolding conditions
+  in_order = (refl, (refl, (refl, (refl, tt))))
+
+  -- the two parts of the conditions are all of them
+  number_is : cond (eqb early 0) (first (late_tests m s t)) early ≡ refusal m.plant (view_of m.plant m) (start s t)
+  unfolding refusal conditions
+  number_is = rw early_is (sym (first_append (early_conditions m s t) (late_tests m s t) in_order))
+
+  pub done_late : {r : ℕ} → r ≡ early → r ≡ 0 → {n : ℕ} {left : Monitor} → LateDone m s t n left → Does m (start s t) n left
+  unfolding accepted_answer
+  done_late e z d = does m (start s t) refl (d.answers ∙ (rw (← e, z) at number_is)) d.leaves
+
+-- the late conditions and the storing
+module _ {requirement levels made running chosen : List ℕ} {s t : ℕ} {m : Monitor} (R : StoreReads requirement levels made running chosen s t m) {n : ℕ} {row : List ℕ} (d : RowChosen m s t n row) where
+  pub late_refused : n ≢ 0 → LateDone m s t n (with_task m running chosen)
+  late_refused z = record { answers = d.answers; leaves = rw (ne_eqb n 0 z, ← R.running_is, ← R.chosen_is) }
+
+  pub late_accepted : {running' chosen' : List ℕ} → n ≡ 0 → running' ≡ ListN.set running s t → chosen' ≡ fill_from chosen (s * 8) (get_row row) 8 → LateDone m s t 0 (with_task m running' chosen')
+  unfolding changed
+  late_accepted z u w = record {
+    answers = sym z ∙ d.answers;
+    leaves =
+        rw (u, w, ← R.running_is, ← R.chosen_is) (ap (λ (l : List ℕ). with_task m (ListN.set m.running s t) l)
+        (row_same m.chosen (s * 8) (get_row row) (pick_for m.plant t (wish_of m s t)) 8 (d.chooses z)));
+  }
