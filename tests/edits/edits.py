@@ -2,8 +2,9 @@
 
     edits.py table ROOT LOG     the document's table, for a reader to judge; an edit that LOG does not have keeps its row
     edits.py check ROOT LOG     that the document has each edit once, with what it changes, its own first line and the fact that LOG has
-    edits.py itself ROOT LOG    that the check fails where a row is left out, doubled or names another fact, and where an edit was not tried, was not
-                                refused, or was refused for nothing that its contracts say
+    edits.py whole ROOT LOG     that LOG, which `rt ci` printed, ends with all passed and no edit bad
+    edits.py itself ROOT LOG    that these checks fail where that line is not so, where a row is left out, doubled or names another fact, and where an
+                                edit was not tried, was not refused, or was refused for nothing that its contracts say
 
 LOG has what `rt ci` or `rt must-fail` printed: a line for each edit, with the first fact of which the check said that it does not hold.
 """
@@ -13,6 +14,9 @@ from pathlib import Path
 
 DOCUMENT = "docs/WRONG-PROGRAMS.md"
 
+# The line with which `rt ci` ends its work where all passed. It says here how many files of must-fail/ are bad, those without a line of their own too.
+WHOLE = re.compile(r"^rt: ok; (.*)$", re.M)
+BAD = re.compile(r", \d+ bad\b")
 # The line of an edit in the log: crate, name and what is said of it.
 LINE = re.compile(r"^rt: must-fail (\w+)/([\w.-]+)\.edit: (.*)$", re.M)
 # What is said of an edit that a fact refuses. Any other word in its place (not refused, not tried, a bad edit, refused only because a name is gone
@@ -119,6 +123,24 @@ def complaints(found, said, stated):
             yield f"{name}: the document has it refused at {row[3]}, and the log at {refused_at}"
 
 
+def incomplete(log):
+    """What is wrong with a log of the gate as a whole: it has no line, or more than one, that all passed, or that line speaks of bad edits."""
+    said = WHOLE.findall(log)
+    if len(said) != 1:
+        yield f"gate: {len(said)} lines that begin with 'rt: ok; '"
+    for line in said:
+        if BAD.search(line):
+            yield f"gate: {line}"
+
+
+def whole(root, log):
+    """Whether the gate's own log says that all passed and that no edit is bad."""
+    wrongs = list(incomplete(log))
+    for wrong in wrongs:
+        print(wrong)
+    return not wrongs
+
+
 def check(root, log):
     """Whether the document says what the log has."""
     found = list(edits(root))
@@ -164,6 +186,13 @@ def itself(root, log):
     for complaint in complaints(found, said, right):
         failed += 1
         print(complaint)
+    ended = "rt: ok; handles allowed: none; must-fail edits: 3 refused"
+    for wrong in "", f"{ended}, 2 bad; done in this run: all\n", f"{ended}\n{ended}\n":
+        if any(incomplete(wrong)):
+            passed += 1
+        else:
+            failed += 1
+            print(f"not found: the gate's log has {wrong!r}")
     print(f"{passed} passed, {failed} failed")
     return passed > 0 and failed == 0
 
@@ -179,7 +208,7 @@ def main(what, root, log):
     if not log.exists():
         print(f"there is no {log}: .ci/run writes it, or `rt must-fail`, given it as its standard output")
         return False
-    return {"table": show, "check": check, "itself": itself}[what](Path(root), log.read_text())
+    return {"table": show, "check": check, "whole": whole, "itself": itself}[what](Path(root), log.read_text())
 
 
 if __name__ == "__main__":

@@ -13,8 +13,8 @@ use rules::Monitor;
 use tested::call_tested;
 
 // One request of any kind on any record whatever: test 20, and the request behind it.
-pub fn step(m: Monitor, r: Request) -> Answered
-    ensures { result ≡ step_of m (call_of r) }
+pub fn call(m: Monitor, kind: u8, a: u8, b: u8, c: u8, d: u8) -> Answered
+    ensures { result ≡ step_of m (call_by kind a b c d) }
 {
     if !is_intact(m) {
         return Answered {
@@ -22,23 +22,14 @@ pub fn step(m: Monitor, r: Request) -> Answered
             monitor: m,
         };
     }
-    call_tested(m, r)
+    call_tested(m, kind, a, b, c, d)
 }
 
-// The same of the request's five bytes.
-pub fn call(m: Monitor, kind: u8, a: u8, b: u8, c: u8, d: u8) -> Answered
-    ensures { result ≡ step_of m (call_by kind a b c d) }
+// The same of a request.
+pub fn step(m: Monitor, r: Request) -> Answered
+    ensures { result ≡ step_of m (call_of r) }
 {
-    step(
-        m,
-        Request {
-            kind: kind,
-            a: a,
-            b: b,
-            c: c,
-            d: d,
-        },
-    )
+    call(m, r.kind, r.a, r.b, r.c, r.d)
 }
 
 // Set: 20, 21, 22, 23, 24, or the level is stored.

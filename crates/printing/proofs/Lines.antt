@@ -4,7 +4,7 @@ use mathlib.Core.Path.{◌≡◌, sym, subst}
 use mathlib.Core.List.{List, ◌∷◌, ◌++◌, append_assoc}
 use lib.ListN.{length}
 use Rattle.base.specs.Overlay.{Wrote}
-use Rattle.base.proofs.Written.{wrote_as, rest_wrote}
+use Rattle.base.proofs.Written.{wrote_as, front_room, rest_room, rest_wrote}
 use Rattle.printing.specs.Text.{codes, line}
 
 -- a word and the space behind it

@@ -35,10 +35,9 @@ nearest_for-near-requires c =
     (omega arith, omega arith)
 
 pub put_choices-requires : goal.put_choices-requires
-put_choices-requires c = (
-  (there c.args.lattice.now c.args.requirement.now _ _ _ _ _ c.requires.counts_in c.requires.links_in c.requires.groups_in c.requires.levels_in c.loop-o.invariant.0 c.loop-o-test.true).group_there,
-  c.loop-o.invariant.1.0,
-)
+put_choices-requires c =
+    let t = there c.args.lattice.now c.args.requirement.now _ _ _ _ _ c.requires.counts_in c.requires.links_in c.requires.groups_in c.requires.levels_in c.loop-o.invariant.0 c.loop-o-test.true in
+    (omega arith, c.loop-o.invariant.1.0)
 
 pub loop-o-preserved : goal.loop-o-preserved
 loop-o-preserved c =

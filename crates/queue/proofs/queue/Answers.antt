@@ -26,7 +26,7 @@ loop-i-preserved c =
     let l' : c.loop-i.i < length ys = omega (arith, fits.1, e, c.loop-i-test.true) in
     record {
       within = omega arith;
-      record_is = next_state m rs ys c.loop-i.i l i.record_is c.call_tested-a.ensures.0;
-      buffer_is = next_buffer m rs ys c.loop-i.i l l' i.record_is i.buffer_is c.call_tested-a.ensures.0;
-      passes = λ h. c.call_tested-a.ensures.1;
+      record_is = next_state m rs ys c.loop-i.i l i.record_is c.advance-a.ensures.0;
+      buffer_is = next_buffer m rs ys c.loop-i.i l l' i.record_is i.buffer_is c.advance-a.ensures.0;
+      passes = λ h. c.advance-a.ensures.1;
     }

@@ -1,12 +1,7 @@
--- The work on the answer's record is the call, and the record after it still passes the test.
-use Rattle.std.proofs.Common.{rules}
-use Rattle.requests.specs.Requests.{call_of}
+-- The work on the answer's record is the call.
+use Rattle.calls.specs.Lent.{call_by}
 use Rattle.requests.proofs.Step.{passed_on}
-use Rattle.requests.proofs.Passed.{still_passes}
 use Rattle.tested.proofs.call_tested.Goals as goal
 
 pub returns : goal.returns
-returns c =
-    let m = c.args.m in
-    still_passes m c.requires (record { levels_len = search rules; running_len = search rules; chosen_len = search rules }) (call_of c.args.r)
-    (passed_on m c.requires (call_of c.args.r) c.call_at.ensures.answers c.call_at.ensures.leaves)
+returns c = let a = c.args in passed_on a.m c.requires (call_by a.kind a.a a.b a.c a.d) c.call_at.ensures.answers c.call_at.ensures.leaves
