@@ -25,8 +25,8 @@ pub fn advance(m: Monitor, r: Request) -> Answered
     x
 }
 
-// The same of a request's five bytes, for a caller that makes no other request on the record. It does its own work: through the other the record would
-// be copied once more, which costs some 500 instructions.
+// The same of a request's five bytes, for a caller that makes no other request on the record. It does its own work: made
+// through the other, it would copy the record once more.
 pub fn call_tested(m: Monitor, kind: u8, a: u8, b: u8, c: u8, d: u8) -> Answered
     requires { intact m.plant m ≡ true }
     ensures { result ≡ step_of m (call_by kind a b c d) }
