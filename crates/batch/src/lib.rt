@@ -45,7 +45,10 @@ pub fn serve(p: Plant, bytes: &[u8], n: usize, out: &mut [u8]) -> Monitor
     for i in 0..n {
         let r = request_at(bytes, i);
         out[i] = turn(
-            &mut m,
+            &m.plant,
+            &mut m.levels,
+            &mut m.running,
+            &mut m.chosen,
             &mut made,
             &mut needs,
             &mut granted,

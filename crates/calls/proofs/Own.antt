@@ -5,12 +5,22 @@ use mathlib.Core.Bool.{true}
 use mathlib.Core.List.{List}
 use Rattle.rules.specs.declared.Monitor.{Monitor}
 use Rattle.rules.specs.Record.{intact}
-use Rattle.calls.specs.Lent.{plant_counts, Passed, StopReads}
+use Rattle.calls.specs.Work.{Granted}
+use Rattle.calls.specs.Lent.{plant_counts, Passed, SetReads, StopReads, GateReads, GrantReads}
 use Rattle.calls.specs.Start.{WishReads, SearchReads, Looked, StoreReads}
 
 module _ (m : Monitor) (i : intact m.plant m ≡ true) where
   own_passed : Passed (plant_counts m.plant) m
   own_passed = record { passes = i; counts = refl }
+
+  pub own_set : SetReads (plant_counts m.plant) m.plant.lattice_sizes m.plant.requirement_lattice m.levels m
+  own_set = record { passed = own_passed; sizes_are = refl; lattice_is = refl; levels_are = refl }
+
+  pub own_gate : GateReads (plant_counts m.plant) m.plant.tank_group m.plant.task_rights m.running m.chosen m
+  own_gate = record { passed = own_passed; group_is = refl; rights_are = refl; running_is = refl; chosen_is = refl }
+
+  pub own_grant : {granted : List ℕ} → Granted m.plant.task_rights m.running m.plant.skids granted → GrantReads (plant_counts m.plant) m.plant.tank_group granted m.chosen m
+  own_grant G = record { passed = own_passed; group_is = refl; chosen_is = refl; grants = G }
 
   pub own_stop : StopReads (plant_counts m.plant) m.running m.chosen m
   own_stop = record { passed = own_passed; running_is = refl; chosen_is = refl }

@@ -3,50 +3,50 @@
 
 ghost use Rattle.std.specs.Prelude.{◌≡◌, true};
 ghost use Rattle.rules.specs.Rules.{start};
-ghost use Rattle.rules.specs.Record.{intact};
+ghost use Rattle.rules.specs.Record.{record_of, with_task, intact};
 ghost use Rattle.calls.specs.Lent.{call_by, Does};
 
 use calls::PlantCounts;
 use chosen::need_of;
 use gates::gate_at;
-use rules::Monitor;
+use plant::Plant;
 use search::put_choices_for;
 use starts::{start_early, start_late};
 use steps::{set_at, stop_at};
 
 // A start by itself searches for the tanks of its own groups and levels: a table of all choices pays from the second start of a list on.
-fn start_alone(m: &mut Monitor, s: u8, t: u8) -> u8
-    requires { intact m.old.plant m.old ≡ true }
-    ensures { Does m.old (start s t) result m.new }
+fn start_alone(
+    p: &Plant,
+    levels: &[u8; 1024],
+    running: &mut [u8; 8],
+    chosen: &mut [u8; 64],
+    s: u8,
+    t: u8,
+) -> u8
+    requires { intact p.now (record_of p.now levels.now running.old chosen.old) ≡ true }
+    ensures { Does (record_of p.now levels.now running.old chosen.old) (start s t) result (with_task (record_of p.now levels.now running.old chosen.old) running.new chosen.new) }
 {
     let counts = PlantCounts {
-        lattices: m.plant.lattices,
-        requirements: m.plant.requirements,
-        groups: m.plant.groups,
-        tanks: m.plant.tanks,
-        tasks: m.plant.tasks,
-        skids: m.plant.skids,
+        lattices: p.lattices,
+        requirements: p.requirements,
+        groups: p.groups,
+        tanks: p.tanks,
+        tasks: p.tasks,
+        skids: p.skids,
     };
-    let early = start_early(
-        &m.plant.skid_tasks,
-        &m.running,
-        counts.skids,
-        counts.tasks,
-        s,
-        t,
-    );
+    let early = start_early(&p.skid_tasks, running, counts.skids, counts.tasks, s, t);
     if early != 0 {
         return early;
     }
-    let need = need_of(&m.plant.task_rights, t as usize, counts.groups);
+    let need = need_of(&p.task_rights, t as usize, counts.groups);
     let mut made = [255u8; 128];
     put_choices_for(
-        &m.plant.lattice_sets,
-        &m.plant.requirement_lattice,
-        &m.plant.group_requirement,
-        &m.plant.tank_group,
-        &m.plant.tank_level,
-        &m.levels,
+        &p.lattice_sets,
+        &p.requirement_lattice,
+        &p.group_requirement,
+        &p.tank_group,
+        &p.tank_level,
+        levels,
         &mut made,
         need,
         s as usize,
@@ -54,11 +54,11 @@ fn start_alone(m: &mut Monitor, s: u8, t: u8) -> u8
         counts.tanks,
     );
     start_late(
-        &m.plant.group_requirement,
-        &m.levels,
+        &p.group_requirement,
+        levels,
         &made,
-        &mut m.running,
-        &mut m.chosen,
+        running,
+        chosen,
         s,
         t,
         need,
@@ -66,26 +66,36 @@ fn start_alone(m: &mut Monitor, s: u8, t: u8) -> u8
 }
 
 // One request by itself: 0 set, 1 start, 2 stop, 3 gate, and 32 for another.
-pub fn call_at(m: &mut Monitor, kind: u8, a: u8, b: u8, c: u8, d: u8) -> u8
-    requires { intact m.old.plant m.old ≡ true }
-    ensures { Does m.old (call_by kind a b c d) result m.new }
+pub fn call_at(
+    p: &Plant,
+    levels: &mut [u8; 1024],
+    running: &mut [u8; 8],
+    chosen: &mut [u8; 64],
+    kind: u8,
+    a: u8,
+    b: u8,
+    c: u8,
+    d: u8,
+) -> u8
+    requires { intact p.now (record_of p.now levels.old running.old chosen.old) ≡ true }
+    ensures { Does (record_of p.now levels.old running.old chosen.old) (call_by kind a b c d) result (record_of p.now levels.new running.new chosen.new) }
 {
     let counts = PlantCounts {
-        lattices: m.plant.lattices,
-        requirements: m.plant.requirements,
-        groups: m.plant.groups,
-        tanks: m.plant.tanks,
-        tasks: m.plant.tasks,
-        skids: m.plant.skids,
+        lattices: p.lattices,
+        requirements: p.requirements,
+        groups: p.groups,
+        tanks: p.tanks,
+        tasks: p.tasks,
+        skids: p.skids,
     };
     if 2 < kind {
         if kind == 3 {
             return gate_at(
                 counts,
-                &m.plant.tank_group,
-                &m.plant.task_rights,
-                &m.running,
-                &m.chosen,
+                &p.tank_group,
+                &p.task_rights,
+                running,
+                chosen,
                 a,
                 b,
                 c,
@@ -96,9 +106,9 @@ pub fn call_at(m: &mut Monitor, kind: u8, a: u8, b: u8, c: u8, d: u8) -> u8
     if kind == 0 {
         return set_at(
             counts,
-            &m.plant.lattice_sizes,
-            &m.plant.requirement_lattice,
-            &mut m.levels,
+            &p.lattice_sizes,
+            &p.requirement_lattice,
+            levels,
             a,
             b,
             c,
@@ -106,7 +116,7 @@ pub fn call_at(m: &mut Monitor, kind: u8, a: u8, b: u8, c: u8, d: u8) -> u8
         );
     }
     if kind == 1 {
-        return start_alone(m, a, b);
+        return start_alone(p, levels, running, chosen, a, b);
     }
-    stop_at(counts, &mut m.running, &mut m.chosen, a)
+    stop_at(counts, running, chosen, a)
 }

@@ -3,8 +3,9 @@
 
 ghost use Rattle.std.specs.Prelude.{◌≡◌, true, ◌≤◌};
 ghost use Rattle.base.specs.Chain.{first};
+ghost use Rattle.rules.specs.declared.Monitor.{Monitor};
 ghost use Rattle.rules.specs.Rules.{start};
-ghost use Rattle.rules.specs.Record.{with_task, intact};
+ghost use Rattle.rules.specs.Record.{record_of, with_task, intact};
 ghost use Rattle.calls.specs.Work.{NeedIn, early_tests};
 ghost use Rattle.calls.specs.Lent.{Does, Tables};
 ghost use Rattle.calls.specs.Start.{StoreReads, LateDone};
@@ -12,7 +13,7 @@ ghost use Rattle.calls.specs.Start.{StoreReads, LateDone};
 use calls::PlantCounts;
 use choices::make_choices;
 use chosen::{choose_row, need_once};
-use rules::Monitor;
+use plant::Plant;
 use steps::put_row;
 
 // Start up to 26, before any group is looked at.
@@ -70,48 +71,50 @@ pub fn start_late<'a>(
 }
 
 // Start in a list, which keeps the table of choices and the groups of its tasks.
-pub fn start_at(m: &mut Monitor, made: &mut [u8; 128], needs: &mut [u16; 16], s: u8, t: u8) -> u8
-    requires passes_test_20 { intact m.old.plant m.old ≡ true }
-    requires tables { Tables m.old.plant made.old needs.old }
-    ensures does { Does m.old (start s t) result m.new }
-    ensures tables { Tables m.old.plant made.new needs.new }
+pub fn start_at(
+    p: &Plant,
+    levels: &[u8; 1024],
+    running: &mut [u8; 8],
+    chosen: &mut [u8; 64],
+    made: &mut [u8; 128],
+    needs: &mut [u16; 16],
+    s: u8,
+    t: u8,
+) -> u8
+    requires passes_test_20 { intact p.now (record_of p.now levels.now running.old chosen.old) ≡ true }
+    requires tables { Tables p.now made.old needs.old }
+    ensures does { Does (record_of p.now levels.now running.old chosen.old) (start s t) result (with_task (record_of p.now levels.now running.old chosen.old) running.new chosen.new) }
+    ensures tables { Tables p.now made.new needs.new }
 {
     let counts = PlantCounts {
-        lattices: m.plant.lattices,
-        requirements: m.plant.requirements,
-        groups: m.plant.groups,
-        tanks: m.plant.tanks,
-        tasks: m.plant.tasks,
-        skids: m.plant.skids,
+        lattices: p.lattices,
+        requirements: p.requirements,
+        groups: p.groups,
+        tanks: p.tanks,
+        tasks: p.tasks,
+        skids: p.skids,
     };
-    let early = start_early(
-        &m.plant.skid_tasks,
-        &m.running,
-        counts.skids,
-        counts.tasks,
-        s,
-        t,
-    );
+    let early = start_early(&p.skid_tasks, running, counts.skids, counts.tasks, s, t);
     if early != 0 {
         return early;
     }
     make_choices(
-        &m.plant.lattice_sets,
-        &m.plant.tank_group,
-        &m.plant.tank_level,
-        &m.plant.requirement_lattice,
-        &m.plant.group_requirement,
+        &p.lattice_sets,
+        &p.tank_group,
+        &p.tank_level,
+        &p.requirement_lattice,
+        &p.group_requirement,
         made,
         counts.groups,
         counts.tanks,
     );
-    let need = need_once(&m.plant.task_rights, needs, t as usize, counts.groups);
+    let need = need_once(&p.task_rights, needs, t as usize, counts.groups);
     start_late(
-        &m.plant.group_requirement,
-        &m.levels,
+        &p.group_requirement,
+        levels,
         made,
-        &mut m.running,
-        &mut m.chosen,
+        running,
+        chosen,
         s,
         t,
         need,

@@ -21,12 +21,23 @@ pub fn advance(m: Monitor, r: Request) -> Answered
         answer: 0,
         monitor: m,
     };
-    x.answer = call_at(&mut x.monitor, r.kind, r.a, r.b, r.c, r.d);
+    let after = &mut x.monitor;
+    x.answer = call_at(
+        &after.plant,
+        &mut after.levels,
+        &mut after.running,
+        &mut after.chosen,
+        r.kind,
+        r.a,
+        r.b,
+        r.c,
+        r.d,
+    );
     x
 }
 
-// The same of a request's five bytes, for a caller that makes no other request on the record. It does its own work: made
-// through the other, it would copy the record once more.
+// The same of a request's five bytes, for a caller that makes no other request on the record. It does its own work: made through the other, it would
+// copy the record once more.
 pub fn call_tested(m: Monitor, kind: u8, a: u8, b: u8, c: u8, d: u8) -> Answered
     requires { intact m.plant m ≡ true }
     ensures { result ≡ step_of m (call_by kind a b c d) }
@@ -35,6 +46,17 @@ pub fn call_tested(m: Monitor, kind: u8, a: u8, b: u8, c: u8, d: u8) -> Answered
         answer: 0,
         monitor: m,
     };
-    x.answer = call_at(&mut x.monitor, kind, a, b, c, d);
+    let left = &mut x.monitor;
+    x.answer = call_at(
+        &left.plant,
+        &mut left.levels,
+        &mut left.running,
+        &mut left.chosen,
+        kind,
+        a,
+        b,
+        c,
+        d,
+    );
     x
 }

@@ -1,14 +1,10 @@
 -- Each turn is the run's next call.
-use Rattle.std.proofs.Common.{◌≡◌, refl, subst, arith}
+use Rattle.std.proofs.Common.{◌≡◌, refl, arith}
 use Rattle.std.proofs.Math.ListN.{length-set}
-use Rattle.plant.specs.declared.Plant.{Plant}
 use Rattle.plant.proofs.Sound.{sound_law}
 use Rattle.plant.proofs.Valid.{valid}
-use Rattle.calls.specs.Work.{Granted}
-use Rattle.calls.specs.Lent.{Tables}
 use Rattle.calls.proofs.Made.{none_made}
 use Rattle.calls.proofs.Grants.{none_granted}
-use Rattle.calls.proofs.Steps.{plant_kept}
 use Rattle.calls.proofs.Served.{still_intact, next_record, next_out, first_record, first_out}
 use Rattle.batch.proofs.serve.Goals as goal
 
@@ -40,8 +36,8 @@ loop-i-preserved c =
       size = simp length-set v.size;
       state = next_record p c.requires.plant_passes bytes c.loop-i.i v.state h.leaves;
       answers = next_out p c.requires.plant_passes bytes c.loop-i.i v.state c.args.out.now (omega arith) v.answers h.answers;
-      tables = subst (λ (P : Plant). Tables P c.turn.new.made c.turn.new.needs) (plant_kept h) c.turn.ensures.tables;
-      grants = subst (λ (P : Plant). Granted P.task_rights c.turn.new.m.running P.skids c.turn.new.granted) (plant_kept h) c.turn.ensures.granted;
+      tables = c.turn.ensures.tables;
+      grants = c.turn.ensures.granted;
     }
 
 pub returns : goal.returns
