@@ -1,16 +1,19 @@
 // The batch call: plant bytes and request bytes, and the answers and the list of rights in the caller's buffer.
 #![tactic(auto)]
 
-ghost use Rattle.std.specs.Prelude.{◌≡◌, true, ◌+◌, ◌*◌, ◌≤◌, length};
+ghost use Rattle.std.specs.Prelude.{◌≡◌, true, ◌+◌, ◌*◌, ◌/◌, ◌≤◌, length, IfOk};
 ghost use Rattle.base.specs.Overlay.{overlay};
 ghost use Rattle.plant.specs.Checks.{plant_refusal};
 ghost use Rattle.calls.specs.RequestBytes.{calls_of};
-ghost use Rattle.outcome.specs.Batch.{refusal_by, outcome, batch_refusal, batch_out};
+ghost use Rattle.outcome.specs.Batch.{size_checks, outcome, batch_refusal, batch_out};
+ghost use Rattle.base.specs.Chain.{first};
+ghost use Rattle.refusal.specs.Number.{answer_of};
 
 use batch::serve;
 use held::write_held;
 use plant::Plant;
 use reader::read;
+use refusal::Refusal;
 
 // The n answers, and behind them the list of the rights held.
 fn write_outcome(p: Plant, requests: &[u8], n: usize, out: &mut [u8])
@@ -30,35 +33,29 @@ fn write_outcome(p: Plant, requests: &[u8], n: usize, out: &mut [u8])
     );
 }
 
-// The number that refuses a batch: opening's, then 34 for request bytes that are no multiple of five, then 31 for a buffer under n + 577 bytes.
-fn refusal(opening: u8, bytes: usize, room: usize) -> u8
-    ensures { result ≡ refusal_by opening bytes room }
+// How many requests there are: 34 for request bytes that are no multiple of five, then 31 for a buffer under n + 577 bytes.
+fn count_requests(bytes: usize, room: usize) -> Result<usize, Refusal>
+    ensures refused { answer_of result ≡ first (size_checks bytes room) }
+    ensures count { IfOk result (λ n. (n ≡ bytes / 5) × ((n * 5 ≤ bytes) × (n + 577 ≤ room))) }
 {
-    if opening != 0 {
-        return opening;
-    }
     if bytes % 5 != 0 {
-        return 34;
+        return Err(Refusal::RequestsNotWhole);
     }
-    if room < bytes / 5 + 577 {
-        return 31;
+    let n = bytes / 5;
+    if room < n + 577 {
+        return Err(Refusal::BufferTooShort);
     }
-    0
+    Ok(n)
 }
 
-// 1 to 12: the plant. 34: request bytes that are no multiple of five. 31: a buffer under n + 577 bytes. Otherwise 0, and the buffer holds the
+// 1 to 12: the plant. 34: request bytes that are no multiple of five. 31: a buffer under n + 577 bytes. Otherwise accepted, and the buffer holds the
 // n answers, the count of rights held, and skid, tank, right of each. After a refusal it is as it was.
-pub fn call_batch(plant: &[u8], requests: &[u8], out: &mut [u8]) -> u8
-    ensures { (result ≡ batch_refusal plant.now requests.now (length out.old))
+pub fn call_batch(plant: &[u8], requests: &[u8], out: &mut [u8]) -> Result<(), Refusal>
+    ensures { (answer_of result ≡ batch_refusal plant.now requests.now (length out.old))
         × (out.new ≡ batch_out plant.now requests.now out.old) }
 {
-    let reading = read(plant);
-    let number = refusal(reading.answer, requests.len(), out.len());
-    if number != 0 {
-        return number;
-    }
-    let n = requests.len() / 5;
-    let p = reading.plant;
+    let p = read(plant)?;
+    let n = count_requests(requests.len(), out.len())?;
     write_outcome(p, requests, n, out);
-    0
+    Ok(())
 }

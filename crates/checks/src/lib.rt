@@ -7,12 +7,14 @@ ghost use Rattle.layout.specs.Layout.{sections};
 ghost use Rattle.layout.specs.Header.{count_ok};
 ghost use Rattle.plant.specs.Plant.{lattice_from};
 ghost use Rattle.plant.specs.Checks.{Fits, entry_is, counts_in, refusals_of, first_number, lattices_refusal, plant_refusal};
+ghost use Rattle.refusal.specs.Number.{answer_of};
 
 use header::{SECTIONS, count_ok};
-use items::items_refusal;
+use items::check_items;
 use lattice::Lattice;
-use levels::refusal_of;
+use levels::check_lattice;
 use plant::Plant;
+use refusal::{Refusal, answer};
 use sets::wide;
 
 // 3: the counts.
@@ -63,7 +65,7 @@ fn refusals<'a>(sizes: &'a [u8; 8], sets: &'a [u16; 128], n: usize) -> [u8; 8]
 {
     let mut numbers = [0u8; 8];
     for l in 0..n {
-        numbers[l] = refusal_of(lattice_at(sizes, sets, l));
+        numbers[l] = answer(check_lattice(&lattice_at(sizes, sets, l)));
     }
     numbers
 }
@@ -80,51 +82,48 @@ fn any_is(numbers: &[u8; 8], n: usize, k: u8) -> bool
     false
 }
 
-// 7, 8 or 9, whichever first stands among the numbers, or 0.
-fn first_number(numbers: &[u8; 8], n: usize) -> u8
+// 7, 8 or 9, whichever first stands among the numbers.
+fn first_refusal(numbers: &[u8; 8], n: usize) -> Result<(), Refusal>
     requires { n ≤ 8 }
-    ensures { result ≡ first_number numbers.now n }
+    ensures { answer_of result ≡ first_number numbers.now n }
 {
     if any_is(numbers, n, 7) {
-        return 7;
+        return Err(Refusal::LatticeMalformed);
     }
     if any_is(numbers, n, 8) {
-        return 8;
+        return Err(Refusal::NotAnOrder);
     }
     if any_is(numbers, n, 9) {
-        return 9;
+        return Err(Refusal::NotALattice);
     }
-    0
+    Ok(())
 }
 
 // Each lattice is tested once, and then each number asked of all of them.
-fn lattices_refusal(p: Plant) -> u8
+fn check_lattices(p: Plant) -> Result<(), Refusal>
     requires { Fits p }
-    ensures { result ≡ lattices_refusal p }
+    ensures { answer_of result ≡ lattices_refusal p }
 {
     let n = p.lattices as usize;
     let numbers = refusals(&p.lattice_sizes, &p.lattice_sets, n);
-    first_number(&numbers, n)
+    first_refusal(&numbers, n)
 }
 
-// The number that refuses a plant record, or 0. The two tests say whether the bytes of the file that are always zero are: those of the
-// lattice records, and those of the others. A record has no such bytes.
+// Checks 3 and 7 to 12 of a plant record. The two tests say whether the bytes of the file that are always zero are: those of the lattice records,
+// and those of the others. A record has no such bytes.
 #[tactic(auto, unfolding(plant::specs::Checks::plant_refusal, plant::specs::Checks::lattices_refusal, plant::specs::Checks::items_refusal))]
-pub fn refusal(p: Plant, zeros7: bool, zeros10: bool) -> u8
-    ensures { result ≡ plant_refusal zeros7 zeros10 p }
+pub fn check_plant(p: Plant, zeros7: bool, zeros10: bool) -> Result<(), Refusal>
+    ensures { answer_of result ≡ plant_refusal zeros7 zeros10 p }
 {
     if !counts_in(p) {
-        return 3;
+        return Err(Refusal::CountOutOfRange);
     }
     if !zeros7 {
-        return 7;
+        return Err(Refusal::LatticeMalformed);
     }
-    let number = lattices_refusal(p);
-    if number != 0 {
-        return number;
-    }
+    check_lattices(p)?;
     if !zeros10 {
-        return 10;
+        return Err(Refusal::EntryOutOfRange);
     }
-    items_refusal(p)
+    check_items(p)
 }

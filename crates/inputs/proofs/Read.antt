@@ -8,8 +8,7 @@ use Rattle.lattice.specs.Levels.{layout, reflexive, antisymmetric, transitive, o
 use Rattle.layout.specs.Layout.{place, zeros_at}
 use Rattle.layout.specs.Header.{length_ok, edition_ok, count_ok, counts_ok, zeros_ok, inside, all_inside, apart, all_apart, header_refusal}
 use Rattle.plant.specs.Checks.{counts_in, lattice_fails, numbers_ok, levels_distinct, requirements_named, plant_refusal}
-use Rattle.opening.specs.declared.Reading.{Reading}
-use Rattle.opening.specs.Reading.{lattice_zeros, other_zeros, opening_refusal, reading_of}
+use Rattle.opening.specs.Reading.{Reading, lattice_zeros, other_zeros, opening_refusal, reading_of}
 use Rattle.inputs.specs.Case.{same_list}
 use Rattle.inputs.specs.Plants.{session, crossed, renumbered, tank0_at_level1, flat, exchanged, pentagon, wide, smallest, rising, narrow}
 

@@ -7,7 +7,7 @@ ghost use Rattle.plant.specs.Checks.{Fits, entry_below};
 ghost use Rattle.rules.specs.Record.{intact};
 ghost use Rattle.test20.specs.Raw.{parts_in};
 
-use checks::refusal;
+use checks::check_plant;
 use plant::Plant;
 use rules::Monitor;
 use running::runs_ok;
@@ -37,7 +37,7 @@ pub fn is_intact(m: Monitor) -> bool
     ensures { result ≡ intact m.plant m }
 {
     let p = m.plant;
-    if refusal(p, true, true) != 0 {
+    if check_plant(p, true, true).is_err() {
         return false;
     }
     parts_ok(p, &m.levels, &m.running, &m.chosen)

@@ -4,9 +4,11 @@
 ghost use Rattle.std.specs.Prelude.{◌≡◌, true, ◌+◌, ◌*◌, ◌<◌, ◌≤◌, get_or};
 ghost use Rattle.base.specs.Below.{all_below};
 ghost use Rattle.plant.specs.Checks.{Fits, entry_below, levels_distinct, requirement_named_in, items_refusal};
+ghost use Rattle.refusal.specs.Number.{answer_of};
 
 use entries::numbers_ok;
 use plant::Plant;
+use refusal::Refusal;
 use sets::wide;
 
 // The place of a group and a level in a table that has one for each of them.
@@ -86,17 +88,17 @@ fn requirements_named<'a>(
     true
 }
 
-// 10, 11 or 12, or 0.
+// Checks 10 to 12.
 #[tactic(auto, unfolding(plant::specs::Checks::items_refusal, plant::specs::Checks::requirements_named))]
-pub fn items_refusal(p: Plant) -> u8
+pub fn check_items(p: Plant) -> Result<(), Refusal>
     requires { Fits p }
-    ensures { result ≡ items_refusal p }
+    ensures { answer_of result ≡ items_refusal p }
 {
     if !numbers_ok(p) {
-        return 10;
+        return Err(Refusal::EntryOutOfRange);
     }
     if !levels_distinct(p) {
-        return 11;
+        return Err(Refusal::TanksAtOneLevel);
     }
     if !requirements_named(
         &p.task_requirements,
@@ -105,7 +107,7 @@ pub fn items_refusal(p: Plant) -> u8
         p.groups,
         p.tasks,
     ) {
-        return 12;
+        return Err(Refusal::RequirementNotNamed);
     }
-    0
+    Ok(())
 }

@@ -5,10 +5,12 @@ ghost use Rattle.std.specs.Prelude.{◌≡◌, ◌<◌, ◌≤◌};
 ghost use Rattle.base.specs.Below.{all_below};
 ghost use Rattle.lattice.specs.Levels.{set_clear, layout, lattice_refusal};
 ghost use Rattle.lattice.specs.Sets.{with_sets};
+ghost use Rattle.refusal.specs.Number.{answer_of};
 
 use above::in_order;
 use joins::is_complete;
 use lattice::Lattice;
+use refusal::Refusal;
 use sets::wider;
 
 // Set i has no bit from n on, and none at all where level i is not used.
@@ -50,20 +52,20 @@ fn laid_out(s: &[u16; 16], n: usize) -> bool
     sets_clear(s, n)
 }
 
-// The number that refuses a lattice record, or 0.
-pub fn refusal_of(l: Lattice) -> u8
-    ensures { result ≡ lattice_refusal l }
+// Checks 7 to 9 of a lattice record.
+pub fn check_lattice(lattice: &Lattice) -> Result<(), Refusal>
+    ensures { answer_of result ≡ lattice_refusal lattice.now }
 {
-    let n = l.n as usize;
-    let s = l.sets;
-    if !laid_out(&s, n) {
-        return 7;
+    let n = lattice.n as usize;
+    let sets = &lattice.sets;
+    if !laid_out(sets, n) {
+        return Err(Refusal::LatticeMalformed);
     }
-    if !in_order(&s, n) {
-        return 8;
+    if !in_order(sets, n) {
+        return Err(Refusal::NotAnOrder);
     }
-    if !is_complete(&s, n) {
-        return 9;
+    if !is_complete(sets, n) {
+        return Err(Refusal::NotALattice);
     }
-    0
+    Ok(())
 }

@@ -1,11 +1,14 @@
 // Opening a plant file, by value: the fresh monitor, or a record of zeros.
 #![tactic(auto)]
 
-ghost use Rattle.std.specs.Prelude.{◌≡◌, replicate};
+ghost use Rattle.std.specs.Prelude.{◌≡◌};
+ghost use Rattle.plant.specs.Plant.{no_plant};
+ghost use Rattle.test20.specs.Zeros.{zero_monitor};
 ghost use Rattle.rules.specs.Record.{fresh};
 ghost use Rattle.requests.specs.Calls.{opened_of};
 
 use plant::Plant;
+use reader::read;
 use requests::Answered;
 use rules::Monitor;
 
@@ -21,11 +24,34 @@ fn fresh_monitor(p: Plant) -> Monitor
     }
 }
 
-fn zero_monitor(p: Plant) -> Monitor
-    ensures { result ≡ record { plant = p; levels = replicate 1024 0; running = replicate 8 0; chosen = replicate 64 0 } }
+fn no_plant() -> Plant
+    ensures { result ≡ no_plant }
+{
+    Plant {
+        lattices: 0,
+        requirements: 0,
+        groups: 0,
+        tanks: 0,
+        tasks: 0,
+        skids: 0,
+        lattice_sizes: [0u8; 8],
+        lattice_sets: [0u16; 128],
+        requirement_lattice: [0u8; 8],
+        group_requirement: [0u8; 8],
+        tank_group: [0u8; 64],
+        tank_level: [0u8; 64],
+        task_requirements: [0u8; 16],
+        task_rights: [0u8; 128],
+        skid_tasks: [0u16; 8],
+    }
+}
+
+// What 20 refuses.
+fn zero_monitor() -> Monitor
+    ensures { result ≡ zero_monitor }
 {
     Monitor {
-        plant: p,
+        plant: no_plant(),
         levels: [0u8; 1024],
         running: [0u8; 8],
         chosen: [0u8; 64],
@@ -36,17 +62,14 @@ fn zero_monitor(p: Plant) -> Monitor
 pub fn open(file: &[u8]) -> Answered
     ensures { result ≡ opened_of file.now }
 {
-    let reading = reader::read(file);
-    let answer = reading.answer;
-    let p = reading.plant;
-    if answer != 0 {
-        return Answered {
-            answer: answer,
-            monitor: zero_monitor(p),
-        };
-    }
-    Answered {
-        answer: 0,
-        monitor: fresh_monitor(p),
+    match read(file) {
+        Ok(plant) => Answered {
+            answer: 0,
+            monitor: fresh_monitor(plant),
+        },
+        Err(refusal) => Answered {
+            answer: refusal.number(),
+            monitor: zero_monitor(),
+        },
     }
 }

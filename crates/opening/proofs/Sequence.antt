@@ -12,8 +12,7 @@ use Rattle.layout.specs.Header.{header_checks, header_refusal, counts_ok}
 use Rattle.layout.proofs.Header.{counts_back, counts_in_range}
 use Rattle.plant.specs.declared.Plant.{Plant}
 use Rattle.plant.specs.Checks.{counts_in, record_checks, plant_refusal}
-use Rattle.opening.specs.declared.Reading.{Reading}
-use Rattle.opening.specs.Reading.{plant_of, lattice_zeros, other_zeros, refused_with, opening_refusal, reading_of}
+use Rattle.opening.specs.Reading.{Reading, plant_of, lattice_zeros, other_zeros, refused_with, opening_refusal, reading_of}
 
 module _ (file : List ℕ) where
   -- the plant has the file's counts
@@ -44,6 +43,11 @@ module _ (file : List ℕ) where
     pub refused_early : {x : Reading} → (r ≡ 0 → ⊥) → x ≡ refused_with r → x ≡ reading_of file
     refused_early f h = h ∙ refuse (e ∙ sym (chained ∙ rw (← e, ne_eqb r 0 f))) f
 
+    -- the same of the number alone
+    pub early_number : (r ≡ 0 → ⊥) → r ≡ (reading_of file).answer
+    unfolding reading_of
+    early_number f = e ∙ sym (chained ∙ rw (← e, ne_eqb r 0 f))
+
     -- p is the plant that was read, z7 and z10 the tests of the zero bytes, n the number of the record
     module _ (z : r ≡ 0) {p : Plant} {z7 z10 : Bool} {n : ℕ} (q : p ≡ plant_of file) (s : z7 ≡ lattice_zeros file) (t : z10 ≡ other_zeros file) (m : n ≡ plant_refusal z7 z10 p) where
       number : n ≡ opening_refusal file
@@ -54,3 +58,11 @@ module _ (file : List ℕ) where
 
       pub accepted : {x : Reading} → n ≡ 0 → x ≡ record { answer = 0; plant = p } → x ≡ reading_of file
       accepted y h = h ∙ rw q (accept (sym y ∙ number))
+
+      pub late_number : n ≡ (reading_of file).answer
+      unfolding reading_of
+      late_number = number
+
+      pub late_plant : n ≡ 0 → p ≡ (reading_of file).plant
+      unfolding reading_of
+      late_plant y = q ∙ rw (← number, y)

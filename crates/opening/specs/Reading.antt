@@ -6,7 +6,6 @@ use Rattle.layout.specs.Header.{header_checks}
 use Rattle.plant.specs.declared.Plant.{Plant}
 use Rattle.plant.specs.Plant.{no_plant}
 use Rattle.plant.specs.Checks.{record_checks}
-use Rattle.opening.specs.declared.Reading.{Reading}
 
 -- Cells that each record of a section has: `run` of them, from its byte `from` on.
 pub record Cell : Type 0 where
@@ -113,6 +112,11 @@ opening_checks file = header_checks file ++ record_checks (lattice_zeros file) (
 -- the number of the first check that fails, or 0
 unfoldable pub opening_refusal : List ℕ → ℕ
 opening_refusal file = first (opening_checks file)
+
+-- Opening's number, and the plant where it is 0. A refusal has a plant of zeros.
+pub record Reading : Type 0 where
+  pub answer : ℕ
+  pub plant : Plant
 
 -- a refusal with number n
 abbrev pub refused_with : ℕ → Reading

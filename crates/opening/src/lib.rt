@@ -1,11 +1,2 @@
-// What opening returns of a plant file. What the file says, and the twelve rules in words, are in specs/.
+// What a plant file says: the plant of its records, the number that refuses it, and the twelve rules in words. Definitions and laws alone.
 #![tactic(auto)]
-
-use plant::Plant;
-
-// Opening's number, and the plant where it is 0. A refusal has a plant of zeros.
-#[derive(Clone, Copy)]
-pub struct Reading {
-    pub answer: u8,
-    pub plant: Plant,
-}

@@ -12,8 +12,8 @@ use Rattle.base.specs.Chain.{first}
 use Rattle.base.specs.Overlay.{overlay}
 use Rattle.base.proofs.Logic.{split}
 use Rattle.base.proofs.Chain.{first_append, clear}
-use Rattle.opening.specs.declared.Reading.{Reading}
-use Rattle.opening.specs.Reading.{opening_checks, opening_refusal, reading_of}
+use Rattle.opening.specs.Reading.{Reading, opening_checks, opening_refusal, reading_of}
+use Rattle.plant.specs.declared.Plant.{Plant}
 use Rattle.plant.specs.Checks.{plant_refusal}
 use Rattle.plant.proofs.Sound.{sound_law}
 use Rattle.opening.proofs.Opening.{opens}
@@ -24,6 +24,13 @@ module _ (plant requests : List ℕ) where
   pub refusal_is : (room : ℕ) → batch_refusal plant requests room ≡ cond (eqb (reading_of plant).answer 0) (first (request_checks requests room)) (reading_of plant).answer
   unfolding batch_refusal reading_of opening_refusal
   refusal_is room = first_append (opening_checks plant) (request_checks requests room) (refl, (refl, (refl, (refl, (refl, (refl, (refl, (refl, (refl, (refl, (refl, (refl, tt))))))))))))
+
+  -- a plant that opening refuses, and else the sizes
+  pub opening_refuses : (room : ℕ) {k : ℕ} → k ≡ (reading_of plant).answer → k ≢ 0 → k ≡ batch_refusal plant requests room
+  opening_refuses room {k} e n = e ∙ sym (refusal_is room ∙ rw (← e, ne_eqb k 0 n))
+
+  pub sizes_decide : (room : ℕ) {k : ℕ} → 0 ≡ (reading_of plant).answer → k ≡ first (request_checks requests room) → k ≡ batch_refusal plant requests room
+  sizes_decide room e h = h ∙ sym (refusal_is room ∙ rw (← e))
 
   -- the buffer after a refusal, and after an accepted batch
   module _ (out : List ℕ) where
@@ -71,3 +78,6 @@ accepts opening bytes room {k} e z = split (eqb opening 0)
 -- an accepted plant passes what the batch asks of one
 pub plant_passes : (plant : List ℕ) {r : Reading} → r ≡ reading_of plant → r.answer ≡ 0 → plant_refusal true true r.plant ≡ 0
 plant_passes plant e z = rw e ((sound_law (reading_of plant).plant).1 ((opens plant).sound ((opens plant).accepts.0 (sym (ap (λ (x : Reading). x.answer) e) ∙ z))))
+
+pub accepted_passes : (plant : List ℕ) {p : Plant} → p ≡ (reading_of plant).plant → 0 ≡ (reading_of plant).answer → plant_refusal true true p ≡ 0
+accepted_passes plant e z = rw e (plant_passes plant refl (sym z))

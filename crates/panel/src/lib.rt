@@ -8,6 +8,7 @@ ghost use Rattle.outcome.specs.Batch.{batch_refusal, batch_out};
 use batch_call::call_batch;
 use layout::Place;
 use parts::section_place;
+use refusal::answer;
 
 // 1 to 12: the plant. 34: request bytes that are no multiple of five. 31: a buffer under n + 577 bytes. Otherwise 0, and the buffer holds the
 // n answers, the count of rights held, and skid, tank, right of each. After a refusal it is as it was.
@@ -16,7 +17,7 @@ pub extern "C" fn permits_batch(plant: &[u8], requests: &[u8], out: &mut [u8]) -
     ensures { (result ≡ batch_refusal plant.now requests.now (length out.old))
         × (out.new ≡ batch_out plant.now requests.now out.old) }
 {
-    call_batch(plant, requests, out)
+    answer(call_batch(plant, requests, out))
 }
 
 // Where 01's section stands in the caller's bytes. A function that C calls cannot hand back a part of them, as layout's `section` does.

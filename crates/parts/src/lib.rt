@@ -5,11 +5,13 @@ ghost use Rattle.std.specs.Prelude.{◌≡◌, ◌+◌, ◌<◌, ◌≤◌, leng
 ghost use Rattle.base.specs.Below.{all_below};
 ghost use Rattle.layout.specs.Layout.{sections, header_bytes, end, part, place};
 ghost use Rattle.layout.specs.Header.{inside, all_inside, apart, all_apart, header_refusal, no_place, section_place, section_of};
+ghost use Rattle.refusal.specs.Number.{answer_of};
 
 use header::{
     HEADER_BYTES, SECTIONS, counts_ok, edition_ok, end_of, length_ok, offset_of, zeros_ok,
 };
 use layout::Place;
+use refusal::Refusal;
 
 // 5: where the sections begin and end.
 #[tactic(auto, unfolding(layout::specs::Header::inside))]
@@ -68,30 +70,30 @@ fn all_apart(file: &[u8]) -> bool
     true
 }
 
-// The first of 1 to 6 that fails, or 0.
+// Checks 1 to 6.
 #[tactic(auto, using(base::proofs::Chain::checks), unfolding(layout::specs::Header::header_refusal))]
-pub fn header_refusal(file: &[u8]) -> u8
-    ensures { result ≡ header_refusal file.now }
+pub fn check_header(file: &[u8]) -> Result<(), Refusal>
+    ensures { answer_of result ≡ header_refusal file.now }
 {
     if !length_ok(file) {
-        return 1;
+        return Err(Refusal::WrongLength);
     }
     if !edition_ok(file) {
-        return 2;
+        return Err(Refusal::WrongEdition);
     }
     if !counts_ok(file) {
-        return 3;
+        return Err(Refusal::CountOutOfRange);
     }
     if !zeros_ok(file) {
-        return 4;
+        return Err(Refusal::HeaderByteNotZero);
     }
     if !all_inside(file) {
-        return 5;
+        return Err(Refusal::SectionOutside);
     }
     if !all_apart(file) {
-        return 6;
+        return Err(Refusal::SectionsShare);
     }
-    0
+    Ok(())
 }
 
 // The part of the file that a section fills.
@@ -117,7 +119,7 @@ fn no_place() -> Place
 pub fn section_place(file: &[u8], kind: usize) -> Place
     ensures { result ≡ section_place file.now kind }
 {
-    if header_refusal(file) != 0 {
+    if check_header(file).is_err() {
         return no_place();
     }
     if SECTIONS <= kind {

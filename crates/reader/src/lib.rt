@@ -1,44 +1,22 @@
 // The reader of plant files: any bytes give opening's number, and the plant where it is 0.
 #![tactic(auto)]
 
-ghost use Rattle.std.specs.Prelude.{◌≡◌, ◌<◌};
+ghost use Rattle.std.specs.Prelude.{◌≡◌, ◌<◌, IfOk};
 ghost use Rattle.layout.specs.Layout.{sections, width};
 ghost use Rattle.layout.specs.Header.{header_refusal};
-ghost use Rattle.plant.specs.Plant.{no_plant};
-ghost use Rattle.opening.specs.Reading.{zero_byte, zeros, other_zeros, refused_with, reading_of};
+ghost use Rattle.opening.specs.Reading.{zero_byte, zeros, other_zeros, reading_of};
+ghost use Rattle.refusal.specs.Number.{answer_of};
 
 use cells::zeros_at;
-use checks::refusal;
+use checks::check_plant;
 use header::{GROUPS, LATTICES, REQUIREMENTS, TASKS, count_of, width_of};
-use opening::Reading;
-use parts::{header_refusal, part_of};
+use parts::{check_header, part_of};
 use plant::Plant;
 use records::plant_from;
+use refusal::Refusal;
 
 // The byte of a lattice, a requirement, a group or a task that is always zero.
 const ZERO_BYTE: usize = 1;
-
-fn no_plant() -> Plant
-    ensures { result ≡ no_plant }
-{
-    Plant {
-        lattices: 0,
-        requirements: 0,
-        groups: 0,
-        tanks: 0,
-        tasks: 0,
-        skids: 0,
-        lattice_sizes: [0u8; 8],
-        lattice_sets: [0u16; 128],
-        requirement_lattice: [0u8; 8],
-        group_requirement: [0u8; 8],
-        tank_group: [0u8; 64],
-        tank_level: [0u8; 64],
-        task_requirements: [0u8; 16],
-        task_rights: [0u8; 128],
-        skid_tasks: [0u16; 8],
-    }
-}
 
 // Whether the zero byte of each record of a section is zero.
 fn zeros_in(file: &[u8], kind: usize) -> bool
@@ -65,30 +43,13 @@ fn other_zeros(file: &[u8]) -> bool
     zeros_in(file, TASKS)
 }
 
-fn refused(number: u8) -> Reading
-    ensures { result ≡ refused_with number }
+// Any bytes: opening's number, or the plant.
+pub fn read(file: &[u8]) -> Result<Plant, Refusal>
+    ensures refused { answer_of result ≡ (reading_of file.now).answer }
+    ensures plant { IfOk result (λ plant. plant ≡ (reading_of file.now).plant) }
 {
-    Reading {
-        answer: number,
-        plant: no_plant(),
-    }
-}
-
-// Any bytes: opening's number, and the plant where it is 0.
-pub fn read(file: &[u8]) -> Reading
-    ensures { result ≡ reading_of file.now }
-{
-    let number = header_refusal(file);
-    if number != 0 {
-        return refused(number);
-    }
-    let p = plant_from(file);
-    let answer = refusal(p, zeros_in(file, LATTICES), other_zeros(file));
-    if answer != 0 {
-        return refused(answer);
-    }
-    Reading {
-        answer: 0,
-        plant: p,
-    }
+    check_header(file)?;
+    let plant = plant_from(file);
+    check_plant(plant, zeros_in(file, LATTICES), other_zeros(file))?;
+    Ok(plant)
 }

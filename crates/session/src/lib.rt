@@ -7,6 +7,7 @@ ghost use Rattle.printing.specs.Printed.{batch_lines, printed, PrintsRead};
 
 use batch_call::call_batch;
 use header::{HEADER_BYTES, length_said};
+use refusal::answer;
 use lines::{print_outcome, put_refusal};
 use text::put_word;
 
@@ -24,7 +25,7 @@ fn print_batch(plant: &[u8], requests: &[u8], text: &mut [u8]) -> usize
     ensures { Wrote (batch_lines plant.now requests.now) text.old 0 text.new result }
 {
     let mut results = [0u8; RESULTS];
-    let number = call_batch(plant, requests, &mut results);
+    let number = answer(call_batch(plant, requests, &mut results));
     print_outcome(number, &results, requests.len() / 5, text)
 }
 

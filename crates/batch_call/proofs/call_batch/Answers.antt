@@ -1,21 +1,28 @@
 -- A refusal with nothing written, or the outcome.
-use Rattle.std.proofs.Common.{sym, ap, ◌∙◌, rules}
+use Rattle.std.proofs.Common.{ℕ, sym, ap₂, ◌∙◌}
 use Rattle.base.specs.Overlay.{overlay}
-use Rattle.opening.specs.declared.Reading.{Reading}
-use Rattle.outcome.specs.Batch.{outcome, batch_calls}
-use Rattle.outcome.proofs.Refused.{unwritten, written, refusal_by_lem, accepts, plant_passes}
+use Rattle.refusal.proofs.NotZero.{handed_on, not_0}
+use Rattle.plant.specs.declared.Plant.{Plant}
+use Rattle.calls.specs.RequestBytes.{calls_of}
+use Rattle.outcome.specs.Batch.{outcome}
+use Rattle.outcome.proofs.Refused.{unwritten, written, opening_refuses, sizes_decide, accepted_passes}
 use Rattle.batch_call.proofs.call_batch.Goals as goal
 
-pub returns-then-number-ne0 : goal.returns-then-number-ne0
-returns-then-number-ne0 c =
-    unwritten c.args.plant.now c.args.requests.now c.args.out.now (refusal_by_lem c.args.plant.now c.args.requests.now c.read-reading.ensures _ c.refusal-number.ensures) c.if-number-ne0.true
+pub returns-in_err-p : goal.returns-in_err-p
+returns-in_err-p c =
+    let e = handed_on _ _ c.from_residual.ensures in
+    unwritten c.args.plant.now c.args.requests.now c.args.out.now (e ∙ opening_refuses _ _ _ c.in_err-p.ensures.refused (not_0 _)) (λ z. not_0 _ (sym e ∙ z))
 
-pub write_outcome-requires : goal.write_outcome-requires
-write_outcome-requires c =
-    let k = accepts _ _ _ c.refusal-number.ensures c.if-number-ne0.false in
-    record { plant_passes = plant_passes c.args.plant.now c.read-reading.ensures k.opened; in_range = (search rules, k.room_enough) }
+pub returns-in_err-n : goal.returns-in_err-n
+returns-in_err-n c =
+    let e = handed_on _ _ c.from_residual-in_err-n.ensures in
+    unwritten c.args.plant.now c.args.requests.now c.args.out.now (e ∙ sizes_decide _ _ _ c.in_ok-p.ensures.refused c.in_err-n.ensures.refused) (λ z. not_0 _ (sym e ∙ z))
+
+pub write_outcome-requires-clause-plant_passes : goal.write_outcome-requires-clause-plant_passes
+write_outcome-requires-clause-plant_passes c = accepted_passes _ c.in_ok-p.ensures.plant c.in_ok-p.ensures.refused
 
 pub returns : goal.returns
 returns c =
-    written c.args.plant.now c.args.requests.now c.args.out.now (sym c.if-number-ne0.false ∙ refusal_by_lem c.args.plant.now c.args.requests.now c.read-reading.ensures _ c.refusal-number.ensures)
-    (c.write_outcome.ensures ∙ ap (λ (x : Reading). overlay c.args.out.now 0 (outcome x.plant (batch_calls c.args.requests.now))) c.read-reading.ensures)
+    written c.args.plant.now c.args.requests.now c.args.out.now (sizes_decide _ _ _ c.in_ok-p.ensures.refused c.in_ok-n.ensures.refused)
+    (c.write_outcome.ensures
+    ∙ ap₂ (λ (p : Plant) (n : ℕ). overlay c.args.out.now 0 (outcome p (calls_of c.args.requests.now n))) c.in_ok-p.ensures.plant c.in_ok-n.ensures.count.0)

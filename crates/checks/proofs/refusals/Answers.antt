@@ -8,4 +8,4 @@ pub loop-l-init : goal.loop-l-init
 loop-l-init c = search (rules, filled)
 
 pub loop-l-preserved : goal.loop-l-preserved
-loop-l-preserved c = fill_next _ _ _ c.loop-l.invariant (c.refusal_of.ensures ∙ ap lattice_refusal c.lattice_at.ensures)
+loop-l-preserved c = fill_next _ _ _ c.loop-l.invariant (c.answer.ensures ∙ (c.check_lattice.ensures ∙ ap lattice_refusal c.lattice_at.ensures))

@@ -1,20 +1,25 @@
--- Each early return is the chain's.
-use Rattle.std.proofs.Common.{refl}
+-- A check that refuses gives opening's number, and a file that none refuses its plant.
+use Rattle.std.proofs.Common.{refl, ◌∙◌, ap}
+use Rattle.refusal.proofs.NotZero.{handed_on, not_0, accepted_0}
 use Rattle.opening.specs.Reading.{lattice_zeros}
-use Rattle.opening.proofs.Sequence.{refused_early, refused_late, accepted}
+use Rattle.opening.proofs.Sequence.{early_number, late_number, late_plant}
 use Rattle.reader.proofs.read.Goals as goal
 
-pub returns-then-number-ne0 : goal.returns-then-number-ne0
-returns-then-number-ne0 c = refused_early _ c.header_refusal-number.ensures c.if-number-ne0.true c.refused.ensures
+pub returns-in_err-check_header-clause-refused : goal.returns-in_err-check_header-clause-refused
+returns-in_err-check_header-clause-refused c = handed_on _ _ c.from_residual.ensures ∙ early_number _ c.in_err-check_header.ensures (not_0 _)
 
-pub returns-then-answer-ne0 : goal.returns-then-answer-ne0
+pub returns-in_err-check_plant-clause-refused : goal.returns-in_err-check_plant-clause-refused
 unfolding lattice_zeros
-returns-then-answer-ne0 c =
-    refused_late _ c.header_refusal-number.ensures c.if-number-ne0.false c.plant_from-p.ensures c.zeros_in.ensures c.other_zeros.ensures
-    c.refusal-answer.ensures c.if-answer-ne0.true c.refused-then-answer-ne0.ensures
+returns-in_err-check_plant-clause-refused c =
+    handed_on _ _ c.from_residual-in_err-check_plant.ensures
+    ∙ late_number _ c.in_ok-check_header.ensures refl c.plant_from-plant.ensures c.zeros_in.ensures c.other_zeros.ensures c.in_err-check_plant.ensures
 
-pub returns : goal.returns
+pub returns-clause-refused : goal.returns-clause-refused
 unfolding lattice_zeros
-returns c =
-    accepted _ c.header_refusal-number.ensures c.if-number-ne0.false c.plant_from-p.ensures c.zeros_in.ensures c.other_zeros.ensures
-    c.refusal-answer.ensures c.if-answer-ne0.false refl
+returns-clause-refused c =
+    late_number _ c.in_ok-check_header.ensures refl c.plant_from-plant.ensures c.zeros_in.ensures c.other_zeros.ensures c.in_ok-check_plant.ensures
+
+pub returns-clause-plant : goal.returns-clause-plant
+unfolding lattice_zeros
+returns-clause-plant c =
+    late_plant _ c.in_ok-check_header.ensures refl c.plant_from-plant.ensures c.zeros_in.ensures c.other_zeros.ensures c.in_ok-check_plant.ensures refl

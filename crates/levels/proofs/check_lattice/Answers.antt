@@ -3,7 +3,7 @@ use Rattle.std.proofs.Common.{sym, ◌∙◌}
 use Rattle.base.proofs.Chain.{checks}
 use Rattle.lattice.specs.Levels.{lattice_refusal}
 use Rattle.lattice.proofs.Laws.{layout_iff, order_iff}
-use Rattle.levels.proofs.refusal_of.Goals as goal
+use Rattle.levels.proofs.check_lattice.Goals as goal
 
 pub in_order-requires : goal.in_order-requires
 in_order-requires c = (layout_iff _).0 (sym c.laid_out.ensures ∙ c.if-not-laid_out.false)

@@ -2,7 +2,7 @@
 use Rattle.std.proofs.Common.{ap}
 use mathlib.Core.Bool.{not}
 use Rattle.layout.proofs.Header.{whole_header}
-use Rattle.parts.proofs.header_refusal.Goals as goal
+use Rattle.parts.proofs.check_header.Goals as goal
 
 pub edition_ok-requires : goal.edition_ok-requires
 edition_ok-requires c = whole_header _ c.length_ok.ensures (ap not c.if-not-length_ok.false)
