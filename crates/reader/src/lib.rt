@@ -2,14 +2,16 @@
 #![tactic(auto)]
 
 ghost use Rattle.std.specs.Prelude.{◌≡◌, ◌<◌};
-ghost use Rattle.layout.specs.Layout.{sections, width};
+ghost use Rattle.layout.specs.Layout.{width};
+ghost use Rattle.layout.specs.Section.{section_number};
 ghost use Rattle.layout.specs.Header.{header_refusal};
 ghost use Rattle.plant.specs.Plant.{no_plant};
 ghost use Rattle.opening.specs.Reading.{zero_byte, zeros, other_zeros, refused_with, reading_of};
 
 use cells::zeros_at;
 use checks::refusal;
-use header::{GROUPS, LATTICES, REQUIREMENTS, TASKS, count_of, width_of};
+use header::{count_of, width_of};
+use layout::Section;
 use opening::Reading;
 use parts::{header_refusal, part_of};
 use plant::Plant;
@@ -41,14 +43,13 @@ fn no_plant() -> Plant
 }
 
 // Whether the zero byte of each record of a section is zero.
-fn zeros_in(file: &[u8], kind: usize) -> bool
+fn zeros_in(file: &[u8], section: Section) -> bool
     requires file_ok { header_refusal file.now ≡ 0 }
-    requires kind_in { kind < sections }
-    requires zero_byte_in { zero_byte < width kind }
-    ensures { result ≡ zeros file.now kind }
+    requires zero_byte_in { zero_byte < width (section_number section) }
+    ensures { result ≡ zeros file.now (section_number section) }
 {
-    let n = count_of(file, kind);
-    zeros_at(part_of(file, kind), width_of(kind), ZERO_BYTE, n)
+    let n = count_of(file, section);
+    zeros_at(part_of(file, section), width_of(section), ZERO_BYTE, n)
 }
 
 #[tactic(auto, unfolding(opening::specs::Reading::other_zeros))]
@@ -56,13 +57,13 @@ fn other_zeros(file: &[u8]) -> bool
     requires { header_refusal file.now ≡ 0 }
     ensures { result ≡ other_zeros file.now }
 {
-    if !zeros_in(file, REQUIREMENTS) {
+    if !zeros_in(file, Section::Requirements) {
         return false;
     }
-    if !zeros_in(file, GROUPS) {
+    if !zeros_in(file, Section::Groups) {
         return false;
     }
-    zeros_in(file, TASKS)
+    zeros_in(file, Section::Tasks)
 }
 
 fn refused(number: u8) -> Reading
@@ -83,7 +84,7 @@ pub fn read(file: &[u8]) -> Reading
         return refused(number);
     }
     let p = plant_from(file);
-    let answer = refusal(p, zeros_in(file, LATTICES), other_zeros(file));
+    let answer = refusal(p, zeros_in(file, Section::Lattices), other_zeros(file));
     if answer != 0 {
         return refused(answer);
     }

@@ -4,7 +4,7 @@
 
 ghost use Rattle.std.specs.Prelude.{◌≤◌, length};
 
-use header::SECTIONS;
+use layout::Section;
 use parts::section;
 use std::io::{Read, Stdin};
 
@@ -29,7 +29,7 @@ fn read_full(mut input: Stdin, buf: &mut [u8]) -> usize
 fn main(rt: HostRuntime) {
     let mut input = [0u8; INPUT];
     let n = read_full(rt.stdin(), &mut input);
-    for kind in 0..SECTIONS {
-        let _ = rt.stdout().write_all(section(&input[..n], kind));
+    for kind in Section::ALL {
+        let _ = rt.stdout().write_all(section(&input[..n], kind as usize));
     }
 }
