@@ -3,26 +3,26 @@
 
 ghost use Rattle.std.specs.Prelude.{◌≡◌, ◌<◌, ◌≤◌, get_or};
 ghost use Rattle.base.specs.Below.{any_below};
-ghost use Rattle.layout.specs.Layout.{sections};
+ghost use Rattle.layout.specs.Section.{section_number};
 ghost use Rattle.layout.specs.Header.{count_ok};
 ghost use Rattle.plant.specs.Plant.{lattice_from};
 ghost use Rattle.plant.specs.Checks.{Fits, entry_is, counts_in, refusals_of, first_number, lattices_refusal, plant_refusal};
 ghost use Rattle.refusal.specs.Number.{answer_of};
 
-use header::{SECTIONS, count_ok};
+use header::count_ok;
 use items::check_items;
 use lattice::Lattice;
+use layout::Section;
 use levels::check_lattice;
 use plant::Plant;
 use refusal::{Refusal, answer};
 use sets::wide;
 
 // 3: the counts.
-fn count_at(counts: &[u8; SECTIONS], kind: usize) -> bool
-    requires { kind < sections }
-    ensures { result ≡ count_ok kind (get_or counts.now kind 0) }
+fn count_at(counts: &[u8; 6], section: Section) -> bool
+    ensures { let k = section_number section in result ≡ count_ok k (get_or counts.now k 0) }
 {
-    count_ok(kind, wide(counts[kind]))
+    count_ok(section, wide(counts[section as usize]))
 }
 
 fn counts_in(p: Plant) -> bool
@@ -36,12 +36,9 @@ fn counts_in(p: Plant) -> bool
         p.tasks,
         p.skids,
     ];
-    for kind in 0..SECTIONS {
-        if !count_at(&counts, kind) {
-            return false;
-        }
-    }
-    true
+    Section::ALL
+        .iter()
+        .all(|section| count_at(&counts, *section))
 }
 
 // 7 to 9: the number that refuses each lattice, and whether one of them is k.

@@ -2,23 +2,11 @@
 #![tactic(auto)]
 
 ghost use Rattle.std.specs.Prelude.{◌≡◌, ◌+◌, ◌*◌, ◌<◌, ◌≤◌, length};
-ghost use Rattle.layout.specs.Layout.{word_at, sections, header_bytes, length_at, width, limit, count, offset, end};
+ghost use Rattle.layout.specs.Layout.{word_at, header_bytes, length_at, width, limit, count, offset, end};
+ghost use Rattle.layout.specs.Section.{section_number};
 ghost use Rattle.layout.specs.Header.{length_ok, edition_ok, count_ok, counts_ok, zeros_ok};
 
-// The kinds of section, in the header's order.
-pub const LATTICES: usize = 0;
-
-pub const REQUIREMENTS: usize = 1;
-
-pub const GROUPS: usize = 2;
-
-pub const TANKS: usize = 3;
-
-pub const TASKS: usize = 4;
-
-pub const SKIDS: usize = 5;
-
-pub const SECTIONS: usize = 6;
+use layout::Section;
 
 pub const HEADER_BYTES: usize = 24;
 
@@ -32,29 +20,20 @@ const OFFSETS_AT: usize = 8;
 const LENGTH_AT: usize = 20;
 
 // Bytes of a record and the most records, by section.
-const WIDTHS: [usize; SECTIONS] = [34, 2, 2, 2, 10, 2];
+const WIDTHS: [usize; 6] = [34, 2, 2, 2, 10, 2];
 
-const LIMITS: [usize; SECTIONS] = [8, 8, 8, 64, 16, 8];
+const LIMITS: [usize; 6] = [8, 8, 8, 64, 16, 8];
 
-pub fn width_of(kind: usize) -> usize
-    requires { kind < sections }
-    ensures { (result ≡ width kind) × (result ≤ 34) }
+pub fn width_of(section: Section) -> usize
+    ensures { (result ≡ width (section_number section)) × (result ≤ 34) }
 {
-    WIDTHS[kind]
+    WIDTHS[section as usize]
 }
 
-fn limit_of(kind: usize) -> usize
-    requires { kind < sections }
-    ensures { result ≡ limit kind }
+fn limit_of(section: Section) -> usize
+    ensures { result ≡ limit (section_number section) }
 {
-    LIMITS[kind]
-}
-
-// A byte as a number that can be multiplied: where a number is made of two of them, the check needs that it is under 256.
-fn wide(x: u8) -> usize
-    ensures { (result ≡ x) × (result < 256) }
-{
-    x as usize
+    LIMITS[section as usize]
 }
 
 // Low byte first.
@@ -62,36 +41,36 @@ fn word_at(s: &[u8], i: usize) -> usize
     requires { i + 1 < length s.now }
     ensures { (result ≡ word_at s.now i) × (result < 65536) }
 {
-    wide(s[i]) + wide(s[i + 1]) * 256
+    usize::from(s[i]) + usize::from(s[i + 1]) * 256
 }
 
 // How many records a section has, as the header has it, and as a number.
-pub fn count_byte(file: &[u8], kind: usize) -> u8
-    requires { (header_bytes ≤ length file.now) × (kind < sections) }
-    ensures { result ≡ count file.now kind }
+pub fn count_byte(file: &[u8], section: Section) -> u8
+    requires { header_bytes ≤ length file.now }
+    ensures { result ≡ count file.now (section_number section) }
 {
-    file[COUNTS_AT + kind]
+    file[COUNTS_AT + section as usize]
 }
 
-pub fn count_of(file: &[u8], kind: usize) -> usize
-    requires { (header_bytes ≤ length file.now) × (kind < sections) }
-    ensures { (result ≡ count file.now kind) × (result < 256) }
+pub fn count_of(file: &[u8], section: Section) -> usize
+    requires { header_bytes ≤ length file.now }
+    ensures { (result ≡ count file.now (section_number section)) × (result < 256) }
 {
-    wide(count_byte(file, kind))
+    usize::from(count_byte(file, section))
 }
 
-pub fn offset_of(file: &[u8], kind: usize) -> usize
-    requires { (header_bytes ≤ length file.now) × (kind < sections) }
-    ensures { (result ≡ offset file.now kind) × (result < 65536) }
+pub fn offset_of(file: &[u8], section: Section) -> usize
+    requires { header_bytes ≤ length file.now }
+    ensures { (result ≡ offset file.now (section_number section)) × (result < 65536) }
 {
-    word_at(file, OFFSETS_AT + kind * 2)
+    word_at(file, OFFSETS_AT + section as usize * 2)
 }
 
-pub fn end_of(file: &[u8], kind: usize) -> usize
-    requires { (header_bytes ≤ length file.now) × (kind < sections) }
-    ensures { result ≡ end file.now kind }
+pub fn end_of(file: &[u8], section: Section) -> usize
+    requires { header_bytes ≤ length file.now }
+    ensures { result ≡ end file.now (section_number section) }
 {
-    offset_of(file, kind) + count_of(file, kind) * width_of(kind)
+    offset_of(file, section) + count_of(file, section) * width_of(section)
 }
 
 // How long the file says that it is.
@@ -127,24 +106,19 @@ pub fn edition_ok(file: &[u8]) -> bool
 
 // 3: the counts.
 #[tactic(auto, unfolding(layout::specs::Header::count_ok))]
-pub fn count_ok(kind: usize, count: usize) -> bool
-    requires { kind < sections }
-    ensures { result ≡ count_ok kind count }
+pub fn count_ok(section: Section, count: usize) -> bool
+    ensures { result ≡ count_ok (section_number section) count }
 {
-    1 <= count && count <= limit_of(kind)
+    1 <= count && count <= limit_of(section)
 }
 
-#[tactic(auto, using(base::proofs::Scan::scan), unfolding(layout::specs::Header::counts_ok))]
 pub fn counts_ok(file: &[u8]) -> bool
     requires { header_bytes ≤ length file.now }
     ensures { result ≡ counts_ok file.now }
 {
-    for kind in 0..SECTIONS {
-        if !count_ok(kind, count_of(file, kind)) {
-            return false;
-        }
-    }
-    true
+    Section::ALL
+        .iter()
+        .all(|section| count_ok(*section, count_of(file, *section)))
 }
 
 // 4: the header's zero bytes.
@@ -153,11 +127,5 @@ pub fn zeros_ok(file: &[u8]) -> bool
     requires { header_bytes ≤ length file.now }
     ensures { result ≡ zeros_ok file.now }
 {
-    if file[7] != 0 {
-        return false;
-    }
-    if file[22] != 0 {
-        return false;
-    }
-    file[23] == 0
+    file[7] == 0 && file[22] == 0 && file[23] == 0
 }

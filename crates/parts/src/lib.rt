@@ -3,71 +3,56 @@
 
 ghost use Rattle.std.specs.Prelude.{◌≡◌, ◌+◌, ◌<◌, ◌≤◌, length};
 ghost use Rattle.base.specs.Below.{all_below};
-ghost use Rattle.layout.specs.Layout.{sections, header_bytes, end, part, place};
+ghost use Rattle.layout.specs.Layout.{header_bytes, end, part};
+ghost use Rattle.layout.specs.Section.{section_number};
 ghost use Rattle.layout.specs.Header.{inside, all_inside, apart, all_apart, header_refusal, no_place, section_place, section_of};
 ghost use Rattle.refusal.specs.Number.{answer_of};
 
-use header::{
-    HEADER_BYTES, SECTIONS, counts_ok, edition_ok, end_of, length_ok, offset_of, zeros_ok,
-};
-use layout::Place;
+use header::{HEADER_BYTES, counts_ok, edition_ok, end_of, length_ok, offset_of, zeros_ok};
+use layout::{Place, Section};
 use refusal::Refusal;
 
 // 5: where the sections begin and end.
 #[tactic(auto, unfolding(layout::specs::Header::inside))]
-fn is_inside(file: &[u8], kind: usize) -> bool
-    requires { (header_bytes ≤ length file.now) × (kind < sections) }
-    ensures { result ≡ inside file.now kind }
+fn is_inside(file: &[u8], section: Section) -> bool
+    requires { header_bytes ≤ length file.now }
+    ensures { result ≡ inside file.now (section_number section) }
 {
-    HEADER_BYTES <= offset_of(file, kind) && end_of(file, kind) <= file.len()
+    HEADER_BYTES <= offset_of(file, section) && end_of(file, section) <= file.len()
 }
 
-#[tactic(auto, using(base::proofs::Scan::scan), unfolding(layout::specs::Header::all_inside))]
 fn all_inside(file: &[u8]) -> bool
     requires { header_bytes ≤ length file.now }
     ensures { result ≡ all_inside file.now }
 {
-    for kind in 0..SECTIONS {
-        if !is_inside(file, kind) {
-            return false;
-        }
-    }
-    true
+    Section::ALL.iter().all(|section| is_inside(file, *section))
 }
 
 // 6: two sections that share no byte.
 #[tactic(auto, unfolding(layout::specs::Header::apart))]
-fn are_apart(file: &[u8], i: usize, j: usize) -> bool
-    requires { (header_bytes ≤ length file.now) × ((i < sections) × (j < sections)) }
-    ensures { result ≡ apart file.now i j }
+fn are_apart(file: &[u8], a: Section, b: Section) -> bool
+    requires { header_bytes ≤ length file.now }
+    ensures { result ≡ apart file.now (section_number a) (section_number b) }
 {
-    end_of(file, i) <= offset_of(file, j) || end_of(file, j) <= offset_of(file, i)
+    end_of(file, a) <= offset_of(file, b) || end_of(file, b) <= offset_of(file, a)
 }
 
-#[tactic(auto, using(base::proofs::Scan::scan))]
-fn apart_from(file: &[u8], i: usize) -> bool
-    requires { (header_bytes ≤ length file.now) × (i < sections) }
-    ensures { result ≡ all_below (apart file.now i) i }
+fn apart_from_earlier(file: &[u8], section: Section) -> bool
+    requires { header_bytes ≤ length file.now }
+    ensures { let k = section_number section in result ≡ all_below (apart file.now k) k }
 {
-    for j in 0..i {
-        if !are_apart(file, i, j) {
-            return false;
-        }
-    }
-    true
+    Section::ALL[..section as usize]
+        .iter()
+        .all(|earlier| are_apart(file, section, *earlier))
 }
 
-#[tactic(auto, using(base::proofs::Scan::scan), unfolding(layout::specs::Header::all_apart))]
 fn all_apart(file: &[u8]) -> bool
     requires { header_bytes ≤ length file.now }
     ensures { result ≡ all_apart file.now }
 {
-    for i in 0..SECTIONS {
-        if !apart_from(file, i) {
-            return false;
-        }
-    }
-    true
+    Section::ALL
+        .iter()
+        .all(|section| apart_from_earlier(file, *section))
 }
 
 // Checks 1 to 6.
@@ -97,12 +82,12 @@ pub fn check_header(file: &[u8]) -> Result<(), Refusal>
 }
 
 // The part of the file that a section fills.
-pub fn part_of(file: &[u8], kind: usize) -> &[u8]
-    requires { (header_refusal file.now ≡ 0) × (kind < sections) }
-    ensures { result.now ≡ part file.now kind }
+pub fn part_of(file: &[u8], section: Section) -> &[u8]
+    requires { header_refusal file.now ≡ 0 }
+    ensures { result.now ≡ part file.now (section_number section) }
 {
-    let off = offset_of(file, kind);
-    let end = end_of(file, kind);
+    let off = offset_of(file, section);
+    let end = end_of(file, section);
     &file[off..end]
 }
 
@@ -122,13 +107,13 @@ pub fn section_place(file: &[u8], kind: usize) -> Place
     if check_header(file).is_err() {
         return no_place();
     }
-    if SECTIONS <= kind {
+    let Ok(section) = Section::try_from(kind) else {
         return no_place();
-    }
-    let begin = offset_of(file, kind);
-    let end = end_of(file, kind);
+    };
+    let begin = offset_of(file, section);
+    let end = end_of(file, section);
     Place {
-        begin: begin,
+        begin,
         length: end - begin,
     }
 }

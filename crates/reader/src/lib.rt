@@ -2,14 +2,16 @@
 #![tactic(auto)]
 
 ghost use Rattle.std.specs.Prelude.{◌≡◌, ◌<◌, IfOk};
-ghost use Rattle.layout.specs.Layout.{sections, width};
+ghost use Rattle.layout.specs.Layout.{width};
+ghost use Rattle.layout.specs.Section.{section_number};
 ghost use Rattle.layout.specs.Header.{header_refusal};
 ghost use Rattle.opening.specs.Reading.{zero_byte, zeros, other_zeros, reading_of};
 ghost use Rattle.refusal.specs.Number.{answer_of};
 
 use cells::zeros_at;
 use checks::check_plant;
-use header::{GROUPS, LATTICES, REQUIREMENTS, TASKS, count_of, width_of};
+use header::{count_of, width_of};
+use layout::Section;
 use parts::{check_header, part_of};
 use plant::Plant;
 use records::plant_from;
@@ -19,14 +21,13 @@ use refusal::Refusal;
 const ZERO_BYTE: usize = 1;
 
 // Whether the zero byte of each record of a section is zero.
-fn zeros_in(file: &[u8], kind: usize) -> bool
+fn zeros_in(file: &[u8], section: Section) -> bool
     requires file_ok { header_refusal file.now ≡ 0 }
-    requires kind_in { kind < sections }
-    requires zero_byte_in { zero_byte < width kind }
-    ensures { result ≡ zeros file.now kind }
+    requires zero_byte_in { zero_byte < width (section_number section) }
+    ensures { result ≡ zeros file.now (section_number section) }
 {
-    let n = count_of(file, kind);
-    zeros_at(part_of(file, kind), width_of(kind), ZERO_BYTE, n)
+    let n = count_of(file, section);
+    zeros_at(part_of(file, section), width_of(section), ZERO_BYTE, n)
 }
 
 #[tactic(auto, unfolding(opening::specs::Reading::other_zeros))]
@@ -34,13 +35,13 @@ fn other_zeros(file: &[u8]) -> bool
     requires { header_refusal file.now ≡ 0 }
     ensures { result ≡ other_zeros file.now }
 {
-    if !zeros_in(file, REQUIREMENTS) {
+    if !zeros_in(file, Section::Requirements) {
         return false;
     }
-    if !zeros_in(file, GROUPS) {
+    if !zeros_in(file, Section::Groups) {
         return false;
     }
-    zeros_in(file, TASKS)
+    zeros_in(file, Section::Tasks)
 }
 
 // Any bytes: opening's number, or the plant.
@@ -50,6 +51,6 @@ pub fn read(file: &[u8]) -> Result<Plant, Refusal>
 {
     check_header(file)?;
     let plant = plant_from(file);
-    check_plant(plant, zeros_in(file, LATTICES), other_zeros(file))?;
+    check_plant(plant, zeros_in(file, Section::Lattices), other_zeros(file))?;
     Ok(plant)
 }

@@ -1,19 +1,11 @@
--- The rules of a scan.
-use Rattle.std.proofs.Common.{rules}
-use Rattle.base.proofs.Scan.{scan}
+-- The counts of all sections are tested.
+use Rattle.std.proofs.Common.{rules, tests, get_or}
+use Rattle.layout.specs.Header.{count_ok}
+use Rattle.layout.proofs.Sections.{all_tested}
+use Rattle.plant.specs.Plant.{counts_of}
 use Rattle.plant.specs.Checks.{counts_in}
 use Rattle.checks.proofs.counts_in.Goals as goal
 
-pub loop-kind-init : goal.loop-kind-init
-loop-kind-init c = search (rules, scan)
-
-pub returns-then-not-count_at : goal.returns-then-not-count_at
-unfolding counts_in
-returns-then-not-count_at c = search (rules, scan)
-
-pub loop-kind-preserved : goal.loop-kind-preserved
-loop-kind-preserved c = search (rules, scan)
-
 pub returns : goal.returns
 unfolding counts_in
-returns c = search (rules, scan)
+returns c = all_tested (λ k. count_ok k (get_or (counts_of c.args.p) k 0)) _ _ _ c.all.ensures.ran (cc) (λ x b q k. search (rules, tests))

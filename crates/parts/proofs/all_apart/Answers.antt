@@ -1,9 +1,10 @@
--- A section that shares a byte with one before it refuses the scan.
-use Rattle.std.proofs.Common.{sym, ◌∙◌}
-use Rattle.base.proofs.Scan.{all_stops}
-use Rattle.layout.specs.Header.{all_apart}
+-- All sections are tested.
+use Rattle.std.proofs.Common.{rules, tests, ℕ}
+use Rattle.base.specs.Below.{all_below}
+use Rattle.layout.specs.Header.{apart, all_apart}
+use Rattle.layout.proofs.Sections.{all_tested}
 use Rattle.parts.proofs.all_apart.Goals as goal
 
-pub returns-then-not-apart_from : goal.returns-then-not-apart_from
+pub returns : goal.returns
 unfolding all_apart
-returns-then-not-apart_from c = all_stops _ _ _ c.loop-i-test.true (sym c.apart_from.ensures ∙ c.if-not-apart_from.true)
+returns c = all_tested (λ (k : ℕ). all_below (apart c.args.file.now k) k) _ _ _ c.all.ensures.ran (cc) (λ x b q k. search (rules, tests))

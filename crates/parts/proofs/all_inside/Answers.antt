@@ -1,9 +1,9 @@
--- A section that does not lie within the file refuses the scan.
-use Rattle.std.proofs.Common.{sym, ◌∙◌}
-use Rattle.base.proofs.Scan.{all_stops}
-use Rattle.layout.specs.Header.{all_inside}
+-- All sections are tested.
+use Rattle.std.proofs.Common.{rules, tests}
+use Rattle.layout.specs.Header.{inside, all_inside}
+use Rattle.layout.proofs.Sections.{all_tested}
 use Rattle.parts.proofs.all_inside.Goals as goal
 
-pub returns-then-not-is_inside : goal.returns-then-not-is_inside
+pub returns : goal.returns
 unfolding all_inside
-returns-then-not-is_inside c = all_stops _ _ _ c.loop-kind-test.true (sym c.is_inside.ensures ∙ c.if-not-is_inside.true)
+returns c = all_tested (inside c.args.file.now) _ _ _ c.all.ensures.ran (cc) (λ x b q k. search (rules, tests))

@@ -1,6 +1,6 @@
 -- A check that refuses gives opening's number, and a file that none refuses its plant.
-use Rattle.std.proofs.Common.{refl, ◌∙◌, ap}
-use Rattle.refusal.proofs.NotZero.{handed_on, not_0, accepted_0}
+use Rattle.std.proofs.Common.{refl, ◌∙◌}
+use Rattle.refusal.proofs.NotZero.{handed_on, not_0}
 use Rattle.opening.specs.Reading.{lattice_zeros}
 use Rattle.opening.proofs.Sequence.{early_number, late_number, late_plant}
 use Rattle.reader.proofs.read.Goals as goal

@@ -27,22 +27,22 @@ returns c = λ i. record {
 
 -- The readers have what they ask for.
 pub count_byte-lattices-requires : goal.count_byte-lattices-requires
-count_byte-lattices-requires c = (header_there _ c.requires, omega arith)
+count_byte-lattices-requires c = header_there _ c.requires
 
 pub count_byte-requirements-requires : goal.count_byte-requirements-requires
-count_byte-requirements-requires c = (header_there _ c.requires, omega arith)
+count_byte-requirements-requires c = header_there _ c.requires
 
 pub count_byte-groups-requires : goal.count_byte-groups-requires
-count_byte-groups-requires c = (header_there _ c.requires, omega arith)
+count_byte-groups-requires c = header_there _ c.requires
 
 pub count_byte-tanks-requires : goal.count_byte-tanks-requires
-count_byte-tanks-requires c = (header_there _ c.requires, omega arith)
+count_byte-tanks-requires c = header_there _ c.requires
 
 pub count_byte-tasks-requires : goal.count_byte-tasks-requires
-count_byte-tasks-requires c = (header_there _ c.requires, omega arith)
+count_byte-tasks-requires c = header_there _ c.requires
 
 pub count_byte-skids-requires : goal.count_byte-skids-requires
-count_byte-skids-requires c = (header_there _ c.requires, omega arith)
+count_byte-skids-requires c = header_there _ c.requires
 
 pub read_eight-requires-clause-records : goal.read_eight-requires-clause-records
 read_eight-requires-clause-records c = part_records _ c.requires lattices (omega arith) c.part_of-of_lattices.ensures c.count_byte-lattices.ensures
