@@ -1,7 +1,7 @@
 -- The queue's loop in lists: after i requests the record is that of their calls, and the buffer begins with their answers. Assumes nothing.
 use mathlib.Core.Path.{◌≡◌, refl, sym, ap, ◌∙◌}
 use Prim.Native.Nat.{ℕ, suc, ◌+◌, ◌≤◌, ◌<◌, zero-le}
-use native.Mathlib.Nat.{zero-add}
+use native.Mathlib.Nat.{zero-add, le_antisymm}
 use native.Mathlib.Numerals.{add-one}
 use native.Mathlib.Omega.{arith}
 use mathlib.Core.Bool.{Bool, true, false, cond, not}
@@ -9,9 +9,10 @@ use mathlib.Core.List.{List, [], ◌∷◌, ◌++◌, map, map-append}
 use lib.Dec.{eqb, ltb}
 use lib.ListN.{length, get_or, take, set, length-map}
 use lib.Seq.{length-take-le, take-suc, take-length}
-use borrow.Author.Tests.{ltb-false}
+use borrow.Author.Tests.{ltb-false, not-false, ne_eqb}
 use Rattle.base.specs.Overlay.{overlay}
-use Rattle.base.proofs.Logic.{split}
+use Rattle.base.specs.Chain.{◌gives◌, Clear}
+use Rattle.base.proofs.Chain.{clear}
 use Rattle.base.proofs.Overlaid.{overlay_none, overlay_more, overlay_length}
 use Rattle.rules.specs.declared.Monitor.{Monitor}
 use Rattle.rules.specs.Rules.{Call}
@@ -21,7 +22,7 @@ use Rattle.requests.specs.declared.Answered.{Answered}
 use Rattle.requests.specs.Calls.{step_of}
 use Rattle.requests.specs.declared.Request.{Request}
 use Rattle.requests.specs.Requests.{call_of}
-use Rattle.queue.specs.Queue.{queue_refusal, admit_of, queued_calls}
+use Rattle.queue.specs.Queue.{queue_refusal, queue_of, queue_out}
 
 abbrev pub no_request : Request
 no_request = record { kind = 0; a = 0; b = 0; c = 0; d = 0 }
@@ -72,20 +73,23 @@ module _ (m : Monitor) (rs : List Request) (ys : List ℕ) where
   pub buffer_length : (i : ℕ) → i ≤ length rs → i ≤ length ys → length (buffer i) ≡ length ys
   buffer_length i l l' = overlay_length ys 0 (replies m (calls rs i)) (omega (arith, answered i l))
 
-counted : (t u : Bool) (n room : ℕ) → u ≡ ltb room n
-    → (cond (eqb (cond (not t) 20 (cond u 31 0)) 0) n 0 ≤ n) × (cond (eqb (cond (not t) 20 (cond u 31 0)) 0) n 0 ≤ room)
-    × (0 < cond (eqb (cond (not t) 20 (cond u 31 0)) 0) n 0 → t ≡ true)
-counted false u n room e = (zero-le, zero-le, λ h. absurd (omega (arith, h)))
-counted true true n room e = (zero-le, zero-le, λ h. refl)
-counted true false n room e = (omega arith, ltb-false room n (sym e), λ h. refl)
-
--- how many requests are made: no more than there are, nor than there is room for; and none on a record that fails the test
+-- what the number says: all requests are made, and each has room for its answer, or none is made
 module _ (m : Monitor) (rs : List Request) (ys : List ℕ) where
-  abbrev count : ℕ
-  count = (admit_of m (length rs) (length ys)).count
+  pub all_made : (i : ℕ) → i ≤ length rs → length rs ≤ i → calls rs i ≡ map call_of rs
+  all_made i a b = ap (calls rs) (le_antisymm a b) ∙ ap (map call_of) (take-length rs)
 
-  pub count_fits : (count ≤ length rs) × (count ≤ length ys) × (0 < count → intact m.plant m ≡ true)
-  count_fits = counted (intact m.plant m) (ltb (length ys) (length rs)) (length rs) (length ys) refl
+  module _ (z : 0 ≡ queue_refusal m (length rs) (length ys)) where
+    clear_of : Clear (not (intact m.plant m) gives 20 ∷ ltb (length ys) (length rs) gives 31 ∷ [])
+    clear_of = clear (not (intact m.plant m) gives 20 ∷ ltb (length ys) (length rs) gives 31 ∷ []) (refl, (refl, tt)) (sym z)
 
-  pub all_made : calls rs count ≡ queued_calls m rs ys
-  all_made = split (eqb (queue_refusal m (length rs) (length ys)) 0) (λ y. rw y (ap (map call_of) (take-length rs))) (λ n. rw n)
+    pub record_passes : intact m.plant m ≡ true
+    record_passes = not-false _ clear_of.0
+
+    pub room_enough : length rs ≤ length ys
+    room_enough = omega (arith, ltb-false _ _ clear_of.1.0)
+
+  -- a queue that is refused makes no call
+  pub refused : {n : ℕ} → n ≡ queue_refusal m (length rs) (length ys) → (n ≡ 0 → ⊥)
+      → (record { answer = n; monitor = m } ≡ queue_of m rs ys) × (ys ≡ queue_out m rs ys)
+  unfolding replies final
+  refused {n} e f = rw (← e, ne_eqb n 0 f) (refl, overlay_none ys 0)
