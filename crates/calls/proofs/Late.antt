@@ -5,13 +5,14 @@ use Prim.Native.Nat.{ℕ, ◌+◌, ◌*◌, ◌<◌}
 use native.Mathlib.Omega.{arith}
 use mathlib.Core.Bool.{Bool, true, false, cond, not, ◌&&◌}
 use mathlib.Core.List.{List}
-use lib.Dec.{eqb, ltb}
+use lib.Dec.{eqb}
 use lib.ListN.{get_or, replicate, length-replicate}
-use borrow.Author.Tests.{ltb-true, eqb-false, eq-eqb, ne_eqb}
+use borrow.Author.Tests.{eqb-false, eq-eqb, ne_eqb}
+use Rattle.std.specs.Prelude.{Result, Ok, Err, IfOk}
 use Rattle.base.specs.Below.{any_below}
 use Rattle.base.specs.Bits.{bit}
 use Rattle.base.specs.Chain.{first}
-use Rattle.base.proofs.Logic.{split, and_true}
+use Rattle.base.proofs.Logic.{split}
 use Rattle.base.proofs.Below.{any_no, any_same}
 use Rattle.base.proofs.Filled.{fill_at}
 use Rattle.plant.specs.declared.Plant.{Plant}
@@ -19,14 +20,15 @@ use Rattle.plant.specs.Plant.{requirement_of, needs}
 use Rattle.plant.specs.Valid.{Valid}
 use Rattle.choice.specs.Choice.{unset, served, choice}
 use Rattle.choice.proofs.Choice.{choice_is, choice_none}
-use Rattle.choice.proofs.Search.{table_choice}
+use Rattle.choice.specs.Table.{ChoicesIn}
+use Rattle.choice.proofs.Search.{table_choice, choice_same}
+use Rattle.refusal.specs.declared.Refusal.{Refusal}
+use Rattle.refusal.specs.Number.{answer_of}
 use Rattle.rules.specs.declared.Monitor.{Monitor}
 use Rattle.rules.specs.Rules.{blank_at, blank, lacking, conditions, pick_for}
-use Rattle.calls.specs.Work.{level_known, made_at, wish_in, found_in, blank_in, lacking_in, pick_in, NeedIn, Reached, RowDone, get_row}
-use Rattle.calls.specs.Lent.{Choices}
-use Rattle.calls.specs.Start.{WishReads, LateReads, Looked, NeedsAt, wish_of, late_tests}
-use Rattle.calls.proofs.Groups.{Eight}
-use Rattle.calls.proofs.Made.{reached, over_groups}
+use Rattle.calls.specs.Work.{level_known, made_at, wish_in, found_in, blank_in, lacking_in, pick_in, NeedOf, Reached, RowDone, get_row}
+use Rattle.calls.specs.Start.{WishReads, SearchReads, LateReads, Looked, NeedsAt, wish_of, stored_wish, late_tests}
+use Rattle.calls.proofs.Made.{reached, over_groups, needed_there}
 use Rattle.calls.proofs.Known.{known}
 use Rattle.calls.proofs.Ready.{plant_valid, level_there}
 use Rattle.calls.proofs.Views.{level_is}
@@ -43,9 +45,9 @@ module _ (m : Monitor) (s t : ℕ) where
   tank_for g = choice m.plant g (wish_of m s t)
 
 -- what is found over all groups, in the rules' words
-pub record RowChosen (m : Monitor) (s t number : ℕ) (row : List ℕ) : Type 0 where
-  pub answers : number ≡ first (late_tests m s t)
-  pub chooses : number ≡ 0 → (g : ℕ) → g < 8 → get_row row g ≡ pick_for m.plant t (wish_of m s t) g
+pub record RowChosen (m : Monitor) (s t : ℕ) (outcome : Result (List ℕ) Refusal) : Type 0 where
+  pub answers : answer_of outcome ≡ first (late_tests m s t)
+  pub chooses : IfOk outcome (λ row. (g : ℕ) → g < 8 → get_row row g ≡ pick_for m.plant t (wish_of m s t) g)
 
 -- what is looked up is there, and the level that is stored is the wish
 module _ {requirement levels : List ℕ} {s t : ℕ} {m : Monitor} (W : WishReads requirement levels s t m) where
@@ -78,22 +80,25 @@ module _ {requirement levels : List ℕ} {s t : ℕ} {m : Monitor} (W : WishRead
     level_fits = known stored 16 stored_known
 
   -- the groups of the set of those that the task needs
-  module _ (need : ℕ) (n : NeedIn m.plant.task_rights t m.plant.groups need) where
-    pub group_there : (g : ℕ) → bit need g ≡ true → NeedsAt m.plant t g
-    group_there g e = let k = and_true (ltb g m.plant.groups) (needs m.plant t g) (sym (n g) ∙ e) in (ltb-true g m.plant.groups k.0, k.1)
-
-    pub below_eight : Eight need
-    below_eight g e = group_fits g (group_there g e).0
-
+  module _ (need : ℕ) (n : NeedOf m.plant t need) where
     pub all_reached : Reached requirement levels s t need
     all_reached = rw (← W.requirement_is, ← W.levels_are) (reached m W.passes s t need W.skid W.task n)
 
-  -- a table of all choices has what a start looks up
-  pub table_looked : {made : List ℕ} → Choices m.plant made → Looked m s t made
-  table_looked c g l n = table_choice m.plant c g (wish_of m s t) l.0 (let k = is_wish g l.0 in omega (arith, k, level_fits g l.0 (λ z. n (sym k ∙ z))))
+  -- what the tanks of the groups are searched in
+  pub search_reads : SearchReads m.plant m.levels s t
+  search_reads = record {
+    valid = plant_valid m W.passes;
+    skid = skid_fits;
+    task = task_fits_lem;
+    levels_known = λ g l. level_there m W.passes s t (requirement_of m.plant g) W.skid W.task ((plant_valid m W.passes).req_in g l);
+  }
+
+-- a table of all choices has what a start looks up
+pub table_looked : {P : Plant} {levels : List ℕ} {s t : ℕ} → SearchReads P levels s t → {made : List ℕ} → ChoicesIn P made → Looked P levels s t made
+table_looked {P} {levels} {s} {t} R c g l n = table_choice P c g (stored_wish levels s t) l.0 (known (stored_wish levels s t (requirement_of P g)) 16 (R.levels_known g l.0) n)
 
 -- What the row of a start is in the rules' words, where `need` is the set of the task's groups.
-module _ {requirement levels made : List ℕ} {s t : ℕ} {m : Monitor} (R : LateReads requirement levels made s t m) (need : ℕ) (n : NeedIn m.plant.task_rights t m.plant.groups need) where
+module _ {requirement levels made : List ℕ} {s t : ℕ} {m : Monitor} (R : LateReads requirement levels made s t m) (need : ℕ) (n : NeedOf m.plant t need) where
   abbrev P : Plant
   P = m.plant
 
@@ -104,7 +109,7 @@ module _ {requirement levels made : List ℕ} {s t : ℕ} {m : Monitor} (R : Lat
   found = found_in (made_at made) requirement levels s t
 
   there : (g : ℕ) → bit need g ≡ true → NeedsAt P t g
-  there = group_there R.wishes need n
+  there = needed_there P t need n
 
   -- a test of the groups of the set, and one of the groups that the task needs
   over_needed : (p : ℕ → Bool) → any_below (λ g. bit need g && p g) 8 ≡ any_below (λ g. needs P t g && p g) P.groups
@@ -123,7 +128,9 @@ module _ {requirement levels made : List ℕ} {s t : ℕ} {m : Monitor} (R : Lat
         let l = there g b in
         let w = is_wish R.wishes g l.0 in
         let u : eqb (wish_in requirement levels s t g) 255 ≡ false = rw b at (any_no 8 (blank_in requirement levels s t (bit need)) z g (group_fits R.wishes g l.0)) in
-        ap (λ (v : ℕ). get_or made (g * 16 + v) 0) w ∙ R.table g l (λ e. eqb-false (wish_in requirement levels s t g) 255 u (w ∙ e))
+        let k : wish_in requirement levels s t g ≡ stored_wish m.levels s t (requirement_of P g) = rw (R.wishes.requirement_is, R.wishes.levels_are) in
+        ap (λ (v : ℕ). get_or made (g * 16 + v) 0) k ∙ R.table g l (λ e. eqb-false (wish_in requirement levels s t g) 255 u (k ∙ e))
+        ∙ choice_same P g (stored_wish m.levels s t) (wish_of m s t) (sym k ∙ w)
 
     -- a group that is served has a tank, and 255 stands for none
     none_served : (g : ℕ) → g < P.groups → eqb (tank_for m s t g) 255 ≡ no_tank m s t g
@@ -140,14 +147,24 @@ module _ {requirement levels made : List ℕ} {s t : ℕ} {m : Monitor} (R : Lat
     same_pick : (g : ℕ) → cond (bit need g) (found g) 255 ≡ cond (bit need g) (tank_for m s t g) 255
     same_pick g = split (bit need g) (λ b. rw (b, same_found g b)) (λ b. rw b)
 
-  pub row_chosen : {number : ℕ} {row : List ℕ} → RowDone (made_at made) requirement levels s t (bit need) 8 number row → RowChosen m s t number row
-  unfolding conditions blank blank_at lacking pick_for
-  row_chosen {number} d = split (any_below (blank_in requirement levels s t (bit need)) 8)
-      (λ z. let e : number ≡ 27 = rw z at d.answers in record { answers = e ∙ sym (rw (sym same_unset ∙ z)); chooses = λ y. absurd (omega (arith, y, e)) })
-      (λ z. record {
-        answers = d.answers ∙ rw (same_unset, same_lacking z);
-        chooses = λ y g l.
-            ap (λ (r : List ℕ). get_row r g) (d.chooses y)
-            ∙ fill_at (pick_in (made_at made) requirement levels s t (bit need)) (replicate 8 255) 8 g 0 (omega (arith, length-replicate {A = ℕ} 8 255)) l
-            ∙ same_pick z g ∙ rw (n g);
-      })
+  module _ {outcome : Result (List ℕ) Refusal} (d : RowDone (made_at made) requirement levels s t (bit need) 8 outcome) where
+    number_is : answer_of outcome ≡ first (late_tests m s t)
+    unfolding conditions blank blank_at lacking
+    number_is = split (any_below (blank_in requirement levels s t (bit need)) 8)
+        (λ z. (rw z at d.answers) ∙ sym (rw (sym same_unset ∙ z)))
+        (λ z. d.answers ∙ rw (same_unset, same_lacking z))
+
+    -- none is unset where none is refused
+    all_set : answer_of outcome ≡ 0 → any_below (blank_in requirement levels s t (bit need)) 8 ≡ false
+    all_set e = split (any_below (blank_in requirement levels s t (bit need)) 8) (λ z. absurd (omega (arith, e, rw z at d.answers))) (λ z. z)
+
+  pub row_chosen : (outcome : Result (List ℕ) Refusal) → RowDone (made_at made) requirement levels s t (bit need) 8 outcome → RowChosen m s t outcome
+  unfolding pick_for
+  row_chosen (Err r) d = record { answers = number_is d; chooses = tt }
+  row_chosen (Ok row) d = record {
+    answers = number_is d;
+    chooses = λ g l.
+        ap (λ (r : List ℕ). get_row r g) d.chooses
+        ∙ fill_at (pick_in (made_at made) requirement levels s t (bit need)) (replicate 8 255) 8 g 0 (omega (arith, length-replicate {A = ℕ} 8 255)) l
+        ∙ same_pick (all_set d refl) g ∙ rw (n g);
+  }

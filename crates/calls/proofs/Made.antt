@@ -2,27 +2,27 @@
 use mathlib.Core.Path.{◌≡◌, refl, sym, ap, ◌∙◌}
 use mathlib.Core.Logic.{◌≢◌}
 use Prim.Native.Nat.{ℕ, ◌+◌, ◌*◌, ◌<◌, ◌≤◌}
-use mathlib.Core.Bool.{Bool, true, false, ◌&&◌, ◌||◌, and-false, and_assoc, or-false}
+use mathlib.Core.Bool.{Bool, true, ◌&&◌, ◌||◌, and-false, and_assoc, or-false}
 use mathlib.Core.List.{List}
 use native.Mathlib.Omega.{arith}
 use native.Mathlib.Decide.{ℕ_discrete}
 use lib.Dec.{eqb, ltb}
 use lib.ListN.{get_or, set, replicate, get_or-replicate, length-replicate, length-set}
 use lib.Seq.{get_or-set_same, get_or-set_other}
-use borrow.Author.Tests.{eqb-false, eq-eqb, ne_eqb, ltb-true, lt-ltb, le-ltb}
+use borrow.Author.Tests.{eq-eqb, ne_eqb, ltb-true, lt-ltb, le-ltb}
 use Rattle.base.specs.Below.{any_below}
 use Rattle.base.specs.Bits.{bit}
-use Rattle.base.proofs.Logic.{split, and_true, or_right}
-use Rattle.base.proofs.Below.{all_at, any_no, any_same, any_upto, next_but_own}
+use Rattle.base.proofs.Logic.{and_true, or_right}
+use Rattle.base.proofs.Below.{all_at, any_same, any_upto, next_but_own}
 use Rattle.base.proofs.Bits.{zero_bit}
-use Rattle.base.proofs.Filled.{fill_over}
 use Rattle.plant.specs.declared.Plant.{Plant}
-use Rattle.choice.specs.Table.{group_choice}
+use Rattle.plant.specs.Plant.{needs}
+use Rattle.choice.specs.Table.{ChoicesIn}
 use Rattle.rules.specs.declared.Monitor.{Monitor}
 use Rattle.rules.specs.Record.{intact}
-use Rattle.calls.specs.Lent.{Choices, Tables}
-use Rattle.calls.specs.Work.{needs_in, made_at, NeedIn, Needed, wish_known, wish_in, blank_in, lacking_in, pick_in, Reached, RowDone}
-use Rattle.calls.proofs.Known.{known}
+use Rattle.calls.specs.Lent.{Tables}
+use Rattle.calls.specs.Work.{needs_in, NeedIn, NeedOf, Needed, wish_known, wish_in, Reached}
+use Rattle.calls.specs.Start.{NeedsAt}
 use Rattle.calls.proofs.Ready.{plant_valid, wishes_known}
 
 pub none_made : (P : Plant) → Tables P (replicate 128 254) (replicate 16 0)
@@ -32,7 +32,7 @@ none_made P = record {
 }
 
 -- and once it is made
-pub all_made : {P : Plant} {made needs : List ℕ} → Choices P made → Needed P.task_rights P.groups needs → Tables P made needs
+pub all_made : {P : Plant} {made needs : List ℕ} → ChoicesIn P made → Needed P needs → Tables P made needs
 all_made c n = record { table = record { size = c.size; right = λ x. c }; tasks = n }
 
 -- the set of a task, group by group
@@ -53,8 +53,8 @@ module _ (rights : List ℕ) (t : ℕ) where
   ]
 
 -- the set of a task, put in its place
-pub need_put : (rights : List ℕ) (groups : ℕ) (needs : List ℕ) (t need : ℕ) → t < 16 → Needed rights groups needs → NeedIn rights t groups need → Needed rights groups (set needs t need)
-need_put rights groups needs t need l n h = record {
+pub need_put : (P : Plant) (needs : List ℕ) (t need : ℕ) → t < 16 → Needed P needs → NeedOf P t need → Needed P (set needs t need)
+need_put P needs t need l n h = record {
   size = simp length-set n.size;
   right = λ u m. elim (ℕ_discrete u t) [
     | yes z ↦ rw (z, get_or-set_same needs t need 0 (omega (arith, l, n.size))) (λ x. h)
@@ -62,8 +62,12 @@ need_put rights groups needs t need l n h = record {
   ];
 }
 
+-- the groups of the set are those that the task needs
+pub needed_there : (P : Plant) (t need : ℕ) → NeedOf P t need → (g : ℕ) → bit need g ≡ true → NeedsAt P t g
+needed_there P t need n g e = let k = and_true (ltb g P.groups) (needs P t g) (sym (n g) ∙ e) in (ltb-true g P.groups k.0, k.1)
+
 -- A start of skid s and task t on a record that passes test 20, where `need` is the set of the task's groups.
-module _ (m : Monitor) (i : intact m.plant m ≡ true) (s t need : ℕ) (a : s < m.plant.skids) (b : t < m.plant.tasks) (n : NeedIn m.plant.task_rights t m.plant.groups need) where
+module _ (m : Monitor) (i : intact m.plant m ≡ true) (s t need : ℕ) (a : s < m.plant.skids) (b : t < m.plant.tasks) (n : NeedOf m.plant t need) where
   abbrev P : Plant
   P = m.plant
 
@@ -89,30 +93,3 @@ module _ (m : Monitor) (i : intact m.plant m ≡ true) (s t need : ℕ) (a : s <
       any_same 8 (λ g. bit need g && p g) (λ g. ltb g P.groups && (named g && p g)) (λ g l. ap (λ x. x && p g) (n g) ∙ and_assoc (ltb g P.groups) (named g) (p g))
       ∙ any_upto 8 P.groups (λ g. named g && p g) fits
       ∙ any_same P.groups (λ g. named g && p g) q e
-
-  abbrev found : ℕ → ℕ → ℕ
-  found = group_choice P.lattice_sets P.tank_group P.tank_level P.requirement_lattice P.group_requirement P.tanks
-
-  -- what the table has for a group whose level is set is the choice
-  same_found : {made : List ℕ} → Choices P made → (g : ℕ) → g < P.groups → eqb (wish g) 255 ≡ false → made_at made g (wish g) ≡ found g (wish g)
-  same_found h g l e = h.right g (wish g) l (known (wish g) 16 (all_at P.groups (wish_known P.group_requirement m.levels s t) (wishes_known m i s t a b) g l) (eqb-false (wish g) 255 e))
-
-  pub by_choice : {made : List ℕ} → Choices P made → {number : ℕ} {row : List ℕ} → RowDone (made_at made) P.group_requirement m.levels s t (bit need) 8 number row → RowDone found P.group_requirement m.levels s t named P.groups number row
-  by_choice {made} h {number} d =
-      let blank = over_groups (λ g. eqb (wish g) 255) (blank_in P.group_requirement m.levels s t named) (λ g l. refl) in
-      split (any_below (blank_in P.group_requirement m.levels s t named) P.groups)
-      (λ z. let e : number ≡ 27 = rw (blank, z) at d.answers in record { answers = e ∙ sym (rw z); chooses = λ y. absurd (omega (arith, y, e)) })
-      (λ z.
-      let same : (g : ℕ) → g < P.groups → named g ≡ true → made_at made g (wish g) ≡ found g (wish g)
-      = λ g l x. same_found h g l (rw x at (any_no P.groups (blank_in P.group_requirement m.levels s t named) z g l)) in
-      record {
-        answers = d.answers ∙ rw (
-          blank,
-          z,
-          over_groups (λ g. eqb (made_at made g (wish g)) 255) (lacking_in found P.group_requirement m.levels s t named)
-              (λ g l. split (named g) (λ x. rw (x, same g l x)) (λ x. rw x)),
-        );
-        chooses = λ y. d.chooses y ∙ fill_over 255 (pick_in (made_at made) P.group_requirement m.levels s t (bit need)) (pick_in found P.group_requirement m.levels s t named) 8 P.groups fits
-            (λ g l. rw (n g, lt-ltb g P.groups l) (split (named g) (λ x. rw (x, same g l x)) (λ x. rw x)))
-            (λ g k l. rw (n g, le-ltb g P.groups k));
-      })

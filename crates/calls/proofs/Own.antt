@@ -8,6 +8,7 @@ use Rattle.rules.specs.Record.{intact}
 use Rattle.calls.specs.Work.{Granted}
 use Rattle.calls.specs.Lent.{plant_counts, Passed, SetReads, StopReads, GateReads, GrantReads}
 use Rattle.calls.specs.Start.{WishReads, SearchReads, Looked, StoreReads}
+use Rattle.calls.proofs.Late.{search_reads}
 
 module _ (m : Monitor) (i : intact m.plant m ≡ true) where
   own_passed : Passed (plant_counts m.plant) m
@@ -30,8 +31,8 @@ module _ (m : Monitor) (i : intact m.plant m ≡ true) where
     pub own_wishes : WishReads m.plant.group_requirement m.levels s t m
     own_wishes = record { passes = i; requirement_is = refl; levels_are = refl; skid = l.0; task = l.1 }
 
-    pub own_search : SearchReads m.plant.lattice_sets m.plant.requirement_lattice m.plant.group_requirement m.plant.tank_group m.plant.tank_level m.levels s t m.plant.tanks m
-    own_search = record { wishes = own_wishes; sets_are = refl; lattice_is = refl; group_is = refl; level_is = refl; tanks_are = refl }
+    pub own_search : SearchReads m.plant m.levels s t
+    own_search = search_reads own_wishes
 
-    pub own_store : {made : List ℕ} → Looked m s t made → StoreReads m.plant.group_requirement m.levels made m.running m.chosen s t m
+    pub own_store : {made : List ℕ} → Looked m.plant m.levels s t made → StoreReads m.plant.group_requirement m.levels made m.running m.chosen s t m
     own_store h = record { reads = record { wishes = own_wishes; table = h }; running_is = refl; chosen_is = refl }

@@ -1,14 +1,14 @@
 -- The rest of a start, behind 21 to 26: what it answers and stores is what the rules say, on every record that has the parts lent to it. Assumes
 -- nothing.
 use mathlib.Core.Path.{◌≡◌, refl, sym, ap, ◌∙◌}
-use mathlib.Core.Logic.{◌≢◌}
 use Prim.Native.Nat.{ℕ, ◌*◌}
-use mathlib.Core.Bool.{true, cond}
+use mathlib.Core.Bool.{true, false, cond}
 use mathlib.Core.List.{List}
 use lib.Dec.{eqb, leb}
 use lib.ListN.{take}
 use lib.ListN as ListN
-use borrow.Author.Tests.{leb-false, ne_eqb}
+use borrow.Author.Tests.{leb-false}
+use Rattle.std.specs.Prelude.{Ok}
 use Rattle.base.specs.Chain.{Test, first}
 use Rattle.base.proofs.Chain.{Numbered, first_append}
 use Rattle.base.proofs.Logic.{split}
@@ -41,7 +41,7 @@ module _ (m : Monitor) (i : intact m.plant m ≡ true) (s t : ℕ) where
   in_order = (refl, (refl, (refl, (refl, tt))))
 
   -- the two parts of the conditions are all of them
-  number_is : cond (eqb early 0) (first (late_tests m s t)) early ≡ refusal m.plant (view_of m.plant m) (start s t)
+  pub number_is : cond (eqb early 0) (first (late_tests m s t)) early ≡ refusal m.plant (view_of m.plant m) (start s t)
   unfolding refusal conditions
   number_is = rw early_is (sym (first_append (early_conditions m s t) (late_tests m s t) in_order))
 
@@ -50,15 +50,16 @@ module _ (m : Monitor) (i : intact m.plant m ≡ true) (s t : ℕ) where
   done_late e z d = does m (start s t) refl (d.answers ∙ (rw (← e, z) at number_is)) d.leaves
 
 -- the late conditions and the storing
-module _ {requirement levels made running chosen : List ℕ} {s t : ℕ} {m : Monitor} (R : StoreReads requirement levels made running chosen s t m) {n : ℕ} {row : List ℕ} (d : RowChosen m s t n row) where
-  pub late_refused : n ≢ 0 → LateDone m s t n (with_task m running chosen)
-  late_refused z = record { answers = d.answers; leaves = rw (ne_eqb n 0 z, ← R.running_is, ← R.chosen_is) }
+module _ {requirement levels made running chosen : List ℕ} {s t : ℕ} {m : Monitor} (R : StoreReads requirement levels made running chosen s t m) where
+  pub late_refused : {n : ℕ} → n ≡ first (late_tests m s t) → eqb n 0 ≡ false → LateDone m s t n (with_task m running chosen)
+  late_refused {n} e z = record { answers = e; leaves = rw (z, ← R.running_is, ← R.chosen_is) }
 
-  pub late_accepted : {running' chosen' : List ℕ} → n ≡ 0 → running' ≡ ListN.set running s t → chosen' ≡ fill_from chosen (s * 8) (get_row row) 8 → LateDone m s t 0 (with_task m running' chosen')
+  pub late_accepted : {row running' chosen' : List ℕ} → RowChosen m s t (Ok row) → running' ≡ ListN.set running s t → chosen' ≡ fill_from chosen (s * 8) (get_row row) 8
+      → LateDone m s t 0 (with_task m running' chosen')
   unfolding changed
-  late_accepted z u w = record {
-    answers = sym z ∙ d.answers;
+  late_accepted {row} d u w = record {
+    answers = d.answers;
     leaves =
         rw (u, w, ← R.running_is, ← R.chosen_is) (ap (λ (l : List ℕ). with_task m (ListN.set m.running s t) l)
-        (row_same m.chosen (s * 8) (get_row row) (pick_for m.plant t (wish_of m s t)) 8 (d.chooses z)));
+        (row_same m.chosen (s * 8) (get_row row) (pick_for m.plant t (wish_of m s t)) 8 d.chooses));
   }

@@ -1,7 +1,7 @@
 -- What a call on a record promises, and what is read of a record by a function to which only a few of its arrays and numbers are lent.
 use Rattle.std.specs.Prelude.{◌≡◌, ℕ, true, cond, List, eqb}
 use Rattle.plant.specs.declared.Plant.{Plant}
-use Rattle.choice.specs.Table.{ChoicesIn, Tabled}
+use Rattle.choice.specs.Table.{Tabled}
 use Rattle.rules.specs.declared.Monitor.{Monitor}
 use Rattle.rules.specs.Rules.{Call, answer}
 use Rattle.rules.specs.Rules as call
@@ -59,12 +59,8 @@ pub record GrantReads (n : PlantCounts) (group granted chosen : List ℕ) (m : M
   pub chosen_is : m.chosen ≡ chosen
   pub grants : Granted m.plant.task_rights m.running m.plant.skids granted
 
--- the table of the choices of a plant, from each group under each level
-abbrev pub Choices : Plant → List ℕ → Type 0
-Choices P made = ChoicesIn P.lattice_sets P.tank_group P.tank_level P.requirement_lattice P.group_requirement P.groups P.tanks made
-
 -- What a list remembers of its plant from one request to the next: the table of choices, made at the first start that passes 26, and the groups
 -- that each task needs.
 pub record Tables (P : Plant) (made needs : List ℕ) : Type 0 where
-  pub table : Tabled P.lattice_sets P.tank_group P.tank_level P.requirement_lattice P.group_requirement P.groups P.tanks made
-  pub tasks : Needed P.task_rights P.groups needs
+  pub table : Tabled P made
+  pub tasks : Needed P needs

@@ -4,10 +4,12 @@ use Rattle.std.proofs.Math.ListN as ListN
 use Rattle.base.specs.Chain.{Test, first}
 use Rattle.plant.specs.declared.Plant.{Plant}
 use Rattle.plant.specs.Plant.{requirement_of, needs}
+use Rattle.plant.specs.Valid.{Valid}
 use Rattle.choice.specs.Choice.{unset, choice}
 use Rattle.rules.specs.declared.Monitor.{Monitor}
 use Rattle.rules.specs.Rules.{start, conditions}
-use Rattle.rules.specs.Record.{view_of, changed, intact}
+use Rattle.rules.specs.Record.{view_of, level_at, changed, intact}
+use Rattle.calls.specs.Work.{level_known}
 
 -- The rules' conditions of a start behind 21 to 26, which ask nothing of the levels and the groups.
 abbrev pub late_tests : Monitor → ℕ → ℕ → List Test
@@ -21,10 +23,26 @@ NeedsAt P t g = (g < P.groups) × (needs P t g ≡ true)
 abbrev pub wish_of : Monitor → ℕ → ℕ → ℕ → ℕ
 wish_of m s t = (view_of m.plant m s).level t
 
+-- the same, as it is stored
+abbrev pub stored_wish : List ℕ → ℕ → ℕ → ℕ → ℕ
+stored_wish levels s t d = get_or levels (level_at s t d) 0
+
 -- `made` has what a start looks up: for each group that the task needs, the choice under the level that the skid has. A list has it of every level.
-abbrev pub Looked : Monitor → ℕ → ℕ → List ℕ → Type 0
-Looked m s t made = (g : ℕ) → NeedsAt m.plant t g → wish_of m s t (requirement_of m.plant g) ≢ unset
-    → get_or made (g * 16 + wish_of m s t (requirement_of m.plant g)) 0 ≡ choice m.plant g (wish_of m s t)
+abbrev pub Looked : Plant → List ℕ → ℕ → ℕ → List ℕ → Type 0
+Looked P levels s t made = (g : ℕ) → NeedsAt P t g → stored_wish levels s t (requirement_of P g) ≢ unset
+    → get_or made (g * 16 + stored_wish levels s t (requirement_of P g)) 0 ≡ choice P g (stored_wish levels s t)
+
+-- What the choices are searched in: the plant's items are linked, and the skid's levels in the task are unset or levels.
+pub record SearchReads (P : Plant) (levels : List ℕ) (s t : ℕ) : Type 0 where
+  pub valid : Valid P
+  pub skid : s < 8
+  pub task : t < 16
+  pub levels_known : (g : ℕ) → g < P.groups → level_known levels s t (requirement_of P g) ≡ true
+
+-- one of them put into its entry
+abbrev pub EntryPut : Plant → List ℕ → ℕ → ℕ → ℕ → List ℕ → List ℕ → Type 0
+EntryPut P levels s t g made made' = made' ≡ cond (eqb (stored_wish levels s t (requirement_of P g)) unset) made
+    (ListN.set made (g * 16 + stored_wish levels s t (requirement_of P g)) (choice P g (stored_wish levels s t)))
 
 -- what the levels of a start are read of, for a skid and a task that are there
 pub record WishReads (requirement levels : List ℕ) (s t : ℕ) (m : Monitor) : Type 0 where
@@ -34,23 +52,10 @@ pub record WishReads (requirement levels : List ℕ) (s t : ℕ) (m : Monitor) :
   pub skid : s < m.plant.skids
   pub task : t < m.plant.tasks
 
--- what the choices are searched in, and one of them put into its entry
-pub record SearchReads (sets lattice requirement group level levels : List ℕ) (s t tanks : ℕ) (m : Monitor) : Type 0 where
-  pub wishes : WishReads requirement levels s t m
-  pub sets_are : m.plant.lattice_sets ≡ sets
-  pub lattice_is : m.plant.requirement_lattice ≡ lattice
-  pub group_is : m.plant.tank_group ≡ group
-  pub level_is : m.plant.tank_level ≡ level
-  pub tanks_are : m.plant.tanks ≡ tanks
-
-abbrev pub EntryPut : Monitor → ℕ → ℕ → ℕ → List ℕ → List ℕ → Type 0
-EntryPut m s t g made made' = made' ≡ cond (eqb (wish_of m s t (requirement_of m.plant g)) unset) made
-    (ListN.set made (g * 16 + wish_of m s t (requirement_of m.plant g)) (choice m.plant g (wish_of m s t)))
-
 -- what the late conditions read
 pub record LateReads (requirement levels made : List ℕ) (s t : ℕ) (m : Monitor) : Type 0 where
   pub wishes : WishReads requirement levels s t m
-  pub table : Looked m s t made
+  pub table : Looked m.plant m.levels s t made
 
 -- what a start that is accepted stores its task and its tanks in, and what the late conditions and the storing do
 pub record StoreReads (requirement levels made running chosen : List ℕ) (s t : ℕ) (m : Monitor) : Type 0 where

@@ -1,12 +1,15 @@
 -- What the code keeps beside the record while it serves a list (rights granted, groups needed), and what a start looks for, group by group. Each
 -- has its law in proofs/: on a record that passes test 20 it is what the rules say.
-use Rattle.std.specs.Prelude.{◌≡◌, ◌≢◌, ℕ, ◌+◌, ◌*◌, ◌<◌, Bool, true, not, cond, ◌&&◌, ◌||◌, List, [], ◌∷◌, eqb, ltb, leb, get_or, length, replicate}
-use Rattle.std.proofs.Math.ListN as ListN
+use Rattle.std.specs.Prelude.{◌≡◌, ◌≢◌, ℕ, ◌+◌, ◌*◌, ◌<◌, Bool, true, not, cond, ◌&&◌, ◌||◌, List, [], ◌∷◌, eqb, ltb, leb, get_or, length, replicate, Option, Some, None, Result, Ok, Err, IfOk}
 use Rattle.base.specs.Below.{any_below}
 use Rattle.base.specs.Bits.{bit}
 use Rattle.base.specs.Chain.{Test, ◌gives◌, first}
 use Rattle.base.specs.Fill.{fill}
+use Rattle.plant.specs.declared.Plant.{Plant}
 use Rattle.plant.specs.Right.{has_right}
+use Rattle.refusal.specs.declared.Refusal.{Refusal}
+use Rattle.refusal.specs.declared.Refusal.TheVariants.{LevelNotSet}
+use Rattle.refusal.specs.Number.{answer_of}
 use Rattle.rules.specs.Record.{level_at, chosen_at}
 
 -- a stored task is none or a task; a stored level is unset or a level
@@ -51,11 +54,15 @@ made_at made g v = get_or made (g * 16 + v) 0
 abbrev pub NeedIn : List ℕ → ℕ → ℕ → ℕ → Type 0
 NeedIn rights t groups need = (g : ℕ) → bit need g ≡ ltb g groups && needs_in rights t g
 
+-- the same of a plant
+abbrev pub NeedOf : Plant → ℕ → ℕ → Type 0
+NeedOf P t need = NeedIn P.task_rights t P.groups need
+
 -- The sets of all tasks. Each is made at the first start of its task in a list that passes 26, and is empty before; that of a task without a right
 -- stays so.
-pub record Needed (rights : List ℕ) (groups : ℕ) (needs : List ℕ) : Type 0 where
+pub record Needed (P : Plant) (needs : List ℕ) : Type 0 where
   pub size : length needs ≡ 16
-  pub right : (t : ℕ) → t < 16 → get_or needs t 0 ≢ 0 → NeedIn rights t groups (get_or needs t 0)
+  pub right : (t : ℕ) → t < 16 → get_or needs t 0 ≢ 0 → NeedOf P t (get_or needs t 0)
 
 -- start's conditions: those that are asked before any group is looked at
 abbrev pub early_tests : List ℕ → List ℕ → ℕ → ℕ → ℕ → ℕ → List Test
@@ -75,10 +82,9 @@ module _ (found : ℕ → ℕ → ℕ) (requirement levels : List ℕ) (s t : �
   abbrev pub found_in : ℕ → ℕ
   found_in g = found g (wish_in requirement levels s t g)
 
-  -- what is found at one group, whose tank goes to the row
-  pub record GroupDone (g : ℕ) (row : List ℕ) (number : ℕ) (row' : List ℕ) : Type 0 where
-    pub answers : number ≡ first (eqb (wish_in requirement levels s t g) 255 gives 27 ∷ eqb (found_in g) 255 gives 28 ∷ [])
-    pub chooses : row' ≡ cond (eqb (wish_in requirement levels s t g) 255) row (ListN.set row g (found_in g))
+  -- what is found at one group: that its level is unset, or its tank, if it has one
+  abbrev pub GroupDone : ℕ → Result (Option ℕ) Refusal → Type 0
+  GroupDone g outcome = outcome ≡ cond (eqb (wish_in requirement levels s t g) 255) (Err LevelNotSet) (Ok (cond (eqb (found_in g) 255) None (Some (found_in g))))
 
   module _ (needed : ℕ → Bool) where
     -- a group that is needed has no tank; and its tank, none where it is not needed
@@ -95,10 +101,10 @@ module _ (found : ℕ → ℕ → ℕ) (requirement levels : List ℕ) (s t : �
     abbrev pub row_tests : ℕ → List Test
     row_tests groups = any_below (blank_in requirement levels s t needed) groups gives 27 ∷ any_below lacking_in groups gives 28 ∷ []
 
-    -- what is found over all groups; nobody reads the row of a start that is refused
-    pub record RowDone (groups number : ℕ) (row' : List ℕ) : Type 0 where
-      pub answers : number ≡ first (row_tests groups)
-      pub chooses : number ≡ 0 → row' ≡ row_in groups
+    -- what is found over all groups: 27, 28 or the row of their tanks
+    pub record RowDone (groups : ℕ) (outcome : Result (List ℕ) Refusal) : Type 0 where
+      pub answers : answer_of outcome ≡ first (row_tests groups)
+      pub chooses : IfOk outcome (λ row. row ≡ row_in groups)
 
 -- each group of the set is there, and its level is unset or a level
 abbrev pub Reached : List ℕ → List ℕ → ℕ → ℕ → ℕ → Type 0

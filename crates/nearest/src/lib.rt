@@ -1,35 +1,31 @@
 // The levels for which a tank is nearest, as sets.
 #![tactic(auto)]
 
-ghost use Rattle.std.specs.Prelude.{◌≡◌, true, not, ◌&&◌, ℕ, ◌<◌, ◌≤◌, get_or};
-ghost use Rattle.base.specs.Below.{all_below, any_below};
+ghost use Rattle.std.specs.Prelude.{◌≡◌, not, ◌&&◌, ℕ, ◌<◌, get_or};
+ghost use Rattle.base.specs.Below.{any_below};
 ghost use Rattle.base.specs.Bits.{bit};
-ghost use Rattle.plant.specs.Checks.{entry_below};
 ghost use Rattle.choice.specs.Search.{under_in_lattice};
-ghost use Rattle.choice.specs.Table.{stands_in, reaches_in, nearer_in};
+ghost use Rattle.choice.specs.Table.{TanksThere, PlacesOf, reaches_in, nearer_in};
 
+use plant::Plant;
 use sets::{with_one, with_set, without_one};
 
 // The levels of the set x that are not in y.
 fn without_set(x: u16, y: u16) -> u16
     ensures { (j : ℕ) → bit result j ≡ bit x j && not (bit y j) }
 {
-    x & (x ^ y)
+    x & !y
 }
 
 // The levels at which each group has a tank, as sets.
-pub fn places_of<'a>(group: &'a [u8; 64], level: &'a [u8; 64], tanks: usize) -> [u16; 8]
-    requires tanks_in { tanks ≤ 64 }
-    requires groups_in { all_below (entry_below group.now 8) tanks ≡ true }
-    requires levels_in { all_below (entry_below level.now 16) tanks ≡ true }
-    ensures { (g y : ℕ) → g < 8 → bit (get_or result g 0) y ≡ any_below (stands_in group.now level.now g y) tanks }
+pub fn places_of(p: &Plant) -> [u16; 8]
+    requires { TanksThere p.now }
+    ensures { (g : ℕ) → g < 8 → PlacesOf p.now g (get_or result g 0) }
 {
     let mut places = [0u16; 8];
-    let mut o: usize = 0;
-    while o < tanks {
-        let g = group[o] as usize;
-        places[g] = with_one(places[g], level[o] as usize);
-        o += 1;
+    for o in 0..usize::from(p.tanks) {
+        let g = usize::from(p.tank_group[o]);
+        places[g] = with_one(places[g], usize::from(p.tank_level[o]));
     }
     places
 }
@@ -41,10 +37,8 @@ fn above_in(sets: &[u16; 128], l: usize, these: u16) -> u16
     ensures { (v : ℕ) → bit result v ≡ any_below (reaches_in sets.now l these v) 16 }
 {
     let mut all: u16 = 0;
-    let mut y: usize = 0;
-    while y < 16 {
+    for y in 0..16 {
         all = with_set(all, these, y, sets[l * 16 + y]);
-        y += 1;
     }
     all
 }

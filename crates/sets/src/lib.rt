@@ -1,9 +1,11 @@
 // Small numbers: sets of those under sixteen, a bit each, and numbers made wider.
 #![tactic(auto)]
 
-ghost use Rattle.std.specs.Prelude.{◌≡◌, cond, not, ◌&&◌, ◌||◌, eqb, ℕ, ◌^◌, ◌<◌};
+ghost use Rattle.std.specs.Prelude.{◌≡◌, cond, not, ◌&&◌, ◌||◌, eqb, ℕ, ◌^◌, ◌<◌, MatchOption};
 ghost use Rattle.std.specs.Int.Bits.{bit_or};
+ghost use Rattle.std.specs.Iterator.{at_most};
 ghost use Rattle.base.specs.Bits.{bit};
+ghost use Rattle.sets.specs.Members.{TakenFrom};
 
 // A byte as an index.
 pub fn wide(x: u8) -> usize
@@ -57,4 +59,35 @@ pub fn byte_where(x: u16, i: usize, yes: u8, no: u8) -> u8
     ensures { result ≡ cond (bit x i) yes no }
 {
     if has(x, i) { yes } else { no }
+}
+
+// The numbers that are in a set, the lowest first.
+#[derive(Drop)]
+pub struct Members {
+    pub rest: u16,
+}
+
+impl Members {
+    pub fn of(set: u16) -> Members
+        ensures { result.rest ≡ set }
+    {
+        Members { rest: set }
+    }
+}
+
+impl Iterator for Members {
+    type Item = usize;
+
+    ghost next_gives = { λ s r t. MatchOption r (s.rest ≡ 0) (λ i. TakenFrom s.rest i t.rest) };
+
+    ghost remaining = { λ s. at_most s.rest };
+
+    fn next(&mut self) -> Option<usize> {
+        if self.rest == 0 {
+            return None;
+        }
+        let i = self.rest.trailing_zeros() as usize;
+        self.rest = without_one(self.rest, i);
+        Some(i)
+    }
 }

@@ -38,31 +38,10 @@ fn start_alone(
     if early != 0 {
         return early;
     }
-    let need = need_of(&p.task_rights, t as usize, counts.groups);
+    let need = need_of(p, t as usize);
     let mut made = [255u8; 128];
-    put_choices_for(
-        &p.lattice_sets,
-        &p.requirement_lattice,
-        &p.group_requirement,
-        &p.tank_group,
-        &p.tank_level,
-        levels,
-        &mut made,
-        need,
-        s as usize,
-        t as usize,
-        counts.tanks,
-    );
-    start_late(
-        &p.group_requirement,
-        levels,
-        &made,
-        running,
-        chosen,
-        s,
-        t,
-        need,
-    )
+    put_choices_for(p, levels, &mut made, need, s as usize, t as usize);
+    start_late(p, levels, &made, running, chosen, s, t, need)
 }
 
 // One request by itself: 0 set, 1 start, 2 stop, 3 gate, and 32 for another.

@@ -6,7 +6,7 @@ ghost use Rattle.base.specs.Chain.{first};
 ghost use Rattle.rules.specs.declared.Monitor.{Monitor};
 ghost use Rattle.rules.specs.Rules.{start};
 ghost use Rattle.rules.specs.Record.{record_of, with_task, intact};
-ghost use Rattle.calls.specs.Work.{NeedIn, early_tests};
+ghost use Rattle.calls.specs.Work.{NeedOf, early_tests};
 ghost use Rattle.calls.specs.Lent.{Does, Tables};
 ghost use Rattle.calls.specs.Start.{StoreReads, LateDone};
 
@@ -38,8 +38,8 @@ pub fn start_early(may: &[u16; 8], running: &[u8; 8], skids: u8, tasks: u8, s: u
 
 // The rest of a start, whose choices are looked up in `made` and whose groups are the set `need`: 27, 28, or the task runs and its groups get their
 // choice, the skid's other groups 255.
-pub fn start_late<'a>(
-    requirement: &'a [u8; 8],
+pub fn start_late(
+    p: &Plant,
     levels: &[u8; 1024],
     made: &[u8; 128],
     running: &mut [u8; 8],
@@ -48,23 +48,14 @@ pub fn start_late<'a>(
     t: u8,
     need: u16,
 ) -> u8
-    requires { (m : Monitor) × (StoreReads requirement.now levels.now made.now running.old chosen.old s t m × NeedIn m.plant.task_rights t m.plant.groups need) }
-    ensures { (m : Monitor) → StoreReads requirement.now levels.now made.now running.old chosen.old s t m
-        → NeedIn m.plant.task_rights t m.plant.groups need → LateDone m s t result (with_task m running.new chosen.new) }
+    requires { (m : Monitor) × (StoreReads p.now.group_requirement levels.now made.now running.old chosen.old s t m × NeedOf m.plant t need) }
+    ensures { (m : Monitor) → StoreReads p.now.group_requirement levels.now made.now running.old chosen.old s t m
+        → NeedOf m.plant t need → LateDone m s t result (with_task m running.new chosen.new) }
 {
-    let mut row = [255u8; 8];
-    let number = choose_row(
-        requirement,
-        levels,
-        made,
-        &mut row,
-        s as usize,
-        t as usize,
-        need,
-    );
-    if number != 0 {
-        return number;
-    }
+    let row = match choose_row(p, levels, made, s as usize, t as usize, need) {
+        Ok(row) => row,
+        Err(refusal) => return refusal.number(),
+    };
     running[s as usize] = t;
     put_row(chosen, s as usize, row);
     0
@@ -98,25 +89,7 @@ pub fn start_at(
     if early != 0 {
         return early;
     }
-    make_choices(
-        &p.lattice_sets,
-        &p.tank_group,
-        &p.tank_level,
-        &p.requirement_lattice,
-        &p.group_requirement,
-        made,
-        counts.groups,
-        counts.tanks,
-    );
-    let need = need_once(&p.task_rights, needs, t as usize, counts.groups);
-    start_late(
-        &p.group_requirement,
-        levels,
-        made,
-        running,
-        chosen,
-        s,
-        t,
-        need,
-    )
+    make_choices(p, made);
+    let need = need_once(p, needs, t as usize);
+    start_late(p, levels, made, running, chosen, s, t, need)
 }

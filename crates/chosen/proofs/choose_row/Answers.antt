@@ -1,57 +1,29 @@
 -- The groups of the set are looked at one after the other.
-use Rattle.std.proofs.Common.{◌≡◌, ◌≢◌, ◌<◌, ℕ, List, Bool, true, not, ◌&&◌, eqb, refl, arith}
-use lib.Count.{count_trailing_zeros}
-use Rattle.base.specs.Bits.{bit}
-use Rattle.calls.proofs.Groups.{Eight, RowSoFar, one_done, row_done, none_yet, next_group, goes_down, ends_27, becomes_28, stays, all_seen}
+use Rattle.std.proofs.lemmas.Result.{err_from_is_err_and}
+use Rattle.calls.proofs.Groups.{none_yet, tank_found, tank_lacking, ends_unset, all_found, some_lack, row_done}
 use Rattle.chosen.proofs.choose_row.Goals as goal
 
--- in the loop: the group that it has come to, and the rest without it
-module _ {p q : ℕ → Bool} {tank : ℕ → ℕ} {need rest number : ℕ} {row : List ℕ} (e : Eight need) (v : RowSoFar p q tank need rest number row) (z : rest ≢ 0) where
-  eight : Eight rest
-  eight j b = e j (v.part j b)
+pub loop-g-init : goal.loop-g-init
+loop-g-init c = rw (c.into_iter-g-iterator.ensures.into_iter_gives, c.of-g-items.ensures) (none_yet _ _ c.args.need)
 
-  group : (count_trailing_zeros 16 rest < 8) × (bit rest (count_trailing_zeros 16 rest) ≡ true)
-  group = next_group rest eight z
+pub returns-in_err-o : goal.returns-in_err-o
+returns-in_err-o c =
+    let T = c.in-Some.ensures.steps in
+    let r = err_from_is_err_and c.from_residual.result c.from_residual.ensures.1 in
+    rw (r.1, r.2) (row_done _ _ _ _ _ c.args.need _ (ends_unset c.loop-g.invariant (c.requires.reached c.in-Some.g (c.loop-g.invariant.part _ T.was_in)).0 T c.in_err-o.ensures))
 
-  down : {left : ℕ} → ((j : ℕ) → bit left j ≡ bit rest j && not (eqb (count_trailing_zeros 16 rest) j)) → left < rest
-  down {left} w = goes_down rest left (count_trailing_zeros 16 rest) eight group.1 w
+pub loop-g-preserved-in-Some-2 : goal.loop-g-preserved-in-Some-2
+loop-g-preserved-in-Some-2 c =
+    let T = c.in-Some.ensures.steps in
+    tank_found c.loop-g.invariant (c.requires.reached c.in-Some.g (c.loop-g.invariant.part _ T.was_in)).0 T (rw c.in-Some-2.is at c.in_ok-o.ensures)
 
-pub loop-rest-init : goal.loop-rest-init
-loop-rest-init c = none_yet _ _ _ _ c.requires.reached.1
+pub loop-g-preserved : goal.loop-g-preserved
+loop-g-preserved c =
+    let T = c.in-Some.ensures.steps in
+    tank_lacking c.loop-g.invariant (c.requires.reached c.in-Some.g (c.loop-g.invariant.part _ T.was_in)).0 T (rw c.in-None-2.is at c.in_ok-o.ensures)
 
-pub without_one-rest-requires : goal.without_one-rest-requires
-without_one-rest-requires c = omega (arith, (group (λ g b. (c.requires.reached.0 g b).0) c.loop-rest.invariant c.loop-rest-test.true).0)
-
-pub choose_at-own-requires-clause-s_bound : goal.choose_at-own-requires-clause-s_bound
-choose_at-own-requires-clause-s_bound c =
-    (c.requires.s_bound.0, (c.requires.s_bound.1, (group (λ g b. (c.requires.reached.0 g b).0) c.loop-rest.invariant c.loop-rest-test.true).0))
-
-pub choose_at-own-requires-clause-g_bound : goal.choose_at-own-requires-clause-g_bound
-choose_at-own-requires-clause-g_bound c =
-    let l = group (λ g b. (c.requires.reached.0 g b).0) c.loop-rest.invariant c.loop-rest-test.true in
-    (c.requires.reached.0 _ (c.loop-rest.invariant.part _ l.1)).1
-
-pub returns-then-own-eq27 : goal.returns-then-own-eq27
-returns-then-own-eq27 c =
-    let l = group (λ g b. (c.requires.reached.0 g b).0) c.loop-rest.invariant c.loop-rest-test.true in
-    row_done _ _ _ _ _ c.args.need (λ z. absurd (omega (arith, z, c.if-own-eq27.true)))
-    (ends_27 c.loop-rest.invariant _ _ l.0 l.1 c.without_one-rest.ensures (one_done _ _ _ _ _ c.choose_at-own.ensures) c.if-own-eq27.true)
-
-pub loop-rest-smaller-then-own-eq28 : goal.loop-rest-smaller-then-own-eq28
-loop-rest-smaller-then-own-eq28 c = down (λ g b. (c.requires.reached.0 g b).0) c.loop-rest.invariant c.loop-rest-test.true c.without_one-rest.ensures
-
-pub loop-rest-preserved-then-own-eq28 : goal.loop-rest-preserved-then-own-eq28
-loop-rest-preserved-then-own-eq28 c =
-    let l = group (λ g b. (c.requires.reached.0 g b).0) c.loop-rest.invariant c.loop-rest-test.true in
-    becomes_28 c.loop-rest.invariant _ _ l.0 l.1 c.without_one-rest.ensures (one_done _ _ _ _ _ c.choose_at-own.ensures) c.if-own-eq27.false c.if-own-eq28.true refl
-
-pub loop-rest-smaller : goal.loop-rest-smaller
-loop-rest-smaller c = down (λ g b. (c.requires.reached.0 g b).0) c.loop-rest.invariant c.loop-rest-test.true c.without_one-rest.ensures
-
-pub loop-rest-preserved : goal.loop-rest-preserved
-loop-rest-preserved c =
-    let l = group (λ g b. (c.requires.reached.0 g b).0) c.loop-rest.invariant c.loop-rest-test.true in
-    stays c.loop-rest.invariant _ _ l.0 l.1 c.without_one-rest.ensures (one_done _ _ _ _ _ c.choose_at-own.ensures) c.if-own-eq27.false c.if-own-eq28.false refl
+pub returns-then-lacking : goal.returns-then-lacking
+returns-then-lacking c = row_done _ _ _ _ _ c.args.need _ (some_lack c.loop-g.invariant c.in-None.ensures.steps c.if-lacking.true)
 
 pub returns : goal.returns
-returns c = row_done _ _ _ _ _ c.args.need (λ z. c.loop-rest.invariant.size) (all_seen c.loop-rest.invariant c.loop-rest-test.false)
+returns c = row_done _ _ _ _ _ c.args.need _ (all_found c.loop-g.invariant c.in-None.ensures.steps c.if-lacking.false)

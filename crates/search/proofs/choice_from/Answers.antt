@@ -1,14 +1,13 @@
--- The tank that is found is the first, and where none is found none is nearest.
-use Rattle.std.proofs.Common.{sym, ◌∙◌, arith}
-use Rattle.base.proofs.Below.{any_none, first_none, first_at}
-use Rattle.choice.specs.Search.{choice_in}
+-- The tank that is found is the lowest that is nearest.
+use Rattle.std.proofs.Common.{rules, tests, ◌≡◌}
+use Rattle.plant.specs.Plant.{requirement_of, lattice_of}
+use Rattle.choice.specs.Search.{nearest_in, choice_in}
+use Rattle.base.proofs.Find.{find_in_range}
 use Rattle.search.proofs.choice_from.Goals as goal
-
-pub returns-then-is_nearest : goal.returns-then-is_nearest
-unfolding choice_in
-returns-then-is_nearest c =
-    first_at 255 _ _ _ (record { below = c.loop-o-test.true; passes = sym c.is_nearest.ensures ∙ c.if-is_nearest.true; first = c.loop-o.invariant.1 })
 
 pub returns : goal.returns
 unfolding choice_in
-returns c = sym (first_none 255 _ _ (any_none _ _ (λ j m. c.loop-o.invariant.1 j (omega (arith, c.loop-o-test.false)))))
+returns c =
+    let P = c.args.p.now in
+    let l : c.from-l.result ≡ lattice_of P (requirement_of P c.args.g) = rw c.from.ensures at c.from-l.ensures in
+    rw (← l) (find_in_range 255 (nearest_in P.lattice_sets P.tank_group P.tank_level c.from-l.result c.args.g c.args.v P.tanks) P.tanks _ _ c.find.result c.find.ensures.ran (λ x b q k. search (rules, tests)))

@@ -18,17 +18,16 @@ need_of-need-requires c =
     let there = passed _ _ _ _ c.args.s c.args.t c.start_early-early.ensures c.if-early-ne0.false in
     (lt_of_lt_of_le there.1 f.tasks_fit, f.groups_fit)
 
-pub put_choices_for-requires-clause-search_reads : goal.put_choices_for-requires-clause-search_reads
-put_choices_for-requires-clause-search_reads c =
+pub put_choices_for-requires-clause-reads : goal.put_choices_for-requires-clause-reads
+put_choices_for-requires-clause-reads c =
     let there = passed _ _ _ _ c.args.s c.args.t c.start_early-early.ensures c.if-early-ne0.false in
-    let needed = c.need_of-need.ensures in
-    (_, (own_search _ c.requires c.args.s c.args.t there, needed))
+    own_search _ c.requires c.args.s c.args.t there
 
 pub start_late-requires : goal.start_late-requires
 start_late-requires c =
     let there = passed _ _ _ _ c.args.s c.args.t c.start_early-early.ensures c.if-early-ne0.false in
     let needed = c.need_of-need.ensures in
-    (_, (own_store _ c.requires c.args.s c.args.t there (c.put_choices_for.ensures _ (own_search _ c.requires c.args.s c.args.t there) needed), needed))
+    (_, (own_store _ c.requires c.args.s c.args.t there c.put_choices_for.ensures, needed))
 
 pub returns : goal.returns
 returns c =
@@ -36,4 +35,4 @@ returns c =
     let there = passed _ _ _ _ c.args.s c.args.t e c.if-early-ne0.false in
     let needed = c.need_of-need.ensures in
     done_late _ c.requires c.args.s c.args.t e c.if-early-ne0.false (c.start_late.ensures _
-    (own_store _ c.requires c.args.s c.args.t there (c.put_choices_for.ensures _ (own_search _ c.requires c.args.s c.args.t there) needed)) needed)
+    (own_store _ c.requires c.args.s c.args.t there c.put_choices_for.ensures) needed)

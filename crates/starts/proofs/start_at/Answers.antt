@@ -1,8 +1,9 @@
 -- The early tests, and the row and its number, are the rules'.
 use native.Mathlib.Nat.{lt_of_lt_of_le}
-use Rattle.calls.proofs.Ready.{plant_valid, links_there, groups_counted, levels_there}
+use Rattle.choice.proofs.Linked.{linked}
+use Rattle.calls.proofs.Ready.{plant_valid}
 use Rattle.calls.proofs.Made.{all_made}
-use Rattle.calls.proofs.Own.{own_wishes, own_store}
+use Rattle.calls.proofs.Own.{own_search, own_store}
 use Rattle.calls.proofs.Late.{table_looked}
 use Rattle.calls.proofs.Start.{passed, refused_early}
 use Rattle.calls.proofs.Store.{done_late}
@@ -13,20 +14,8 @@ returns-then-early-ne0-clause-does c =
     let i = c.requires.passes_test_20 in
     refused_early _ i c.args.s c.args.t c.start_early-early.ensures c.if-early-ne0.true
 
-pub make_choices-requires-clause-counts_in : goal.make_choices-requires-clause-counts_in
-make_choices-requires-clause-counts_in c =
-    let i = c.requires.passes_test_20 in
-    let f = (plant_valid _ i).counts in
-    (f.groups_fit, f.tanks_fit)
-
-pub make_choices-requires-clause-links_in : goal.make_choices-requires-clause-links_in
-make_choices-requires-clause-links_in c = links_there _ c.requires.passes_test_20
-
-pub make_choices-requires-clause-groups_in : goal.make_choices-requires-clause-groups_in
-make_choices-requires-clause-groups_in c = groups_counted _ c.requires.passes_test_20
-
-pub make_choices-requires-clause-levels_in : goal.make_choices-requires-clause-levels_in
-make_choices-requires-clause-levels_in c = levels_there _ c.requires.passes_test_20
+pub make_choices-requires-clause-linked : goal.make_choices-requires-clause-linked
+make_choices-requires-clause-linked c = linked _ (plant_valid _ c.requires.passes_test_20)
 
 pub start_early-early-requires : goal.start_early-early-requires
 start_early-early-requires c = let f = (plant_valid _ c.requires.passes_test_20).counts in (f.skids_fit, f.tasks_fit)
@@ -46,7 +35,7 @@ start_late-requires c =
     let there = passed _ _ _ _ c.args.s c.args.t c.start_early-early.ensures c.if-early-ne0.false in (
       _,
       (
-        own_store _ i c.args.s c.args.t there (table_looked (own_wishes _ i c.args.s c.args.t there) c.make_choices.ensures),
+        own_store _ i c.args.s c.args.t there (table_looked (own_search _ i c.args.s c.args.t there) c.make_choices.ensures),
         c.need_once-need.ensures.0,
       ),
     )
@@ -57,7 +46,7 @@ returns-clause-does c =
     let e = c.start_early-early.ensures in
     let there = passed _ _ _ _ c.args.s c.args.t e c.if-early-ne0.false in
     done_late _ i c.args.s c.args.t e c.if-early-ne0.false (c.start_late.ensures _
-    (own_store _ i c.args.s c.args.t there (table_looked (own_wishes _ i c.args.s c.args.t there) c.make_choices.ensures))
+    (own_store _ i c.args.s c.args.t there (table_looked (own_search _ i c.args.s c.args.t there) c.make_choices.ensures))
     c.need_once-need.ensures.0)
 
 pub returns-clause-tables : goal.returns-clause-tables
