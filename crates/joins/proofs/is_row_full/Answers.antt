@@ -2,7 +2,7 @@
 use Rattle.std.proofs.Common.{not, ap, rules}
 use borrow.Author.Tests.{eq-eqb, ne_eqb}
 use Rattle.base.proofs.Scan.{scan, all_stops, all_more}
-use Rattle.joins.proofs.row_full.Goals as goal
+use Rattle.joins.proofs.is_row_full.Goals as goal
 
 pub loop-j-init : goal.loop-j-init
 loop-j-init c = search (rules, scan)
@@ -11,4 +11,7 @@ pub returns-then-row-j : goal.returns-then-row-j
 returns-then-row-j c = all_stops _ _ _ (search rules) (ap not (eq-eqb _ _ c.if-row-j.true))
 
 pub loop-j-preserved : goal.loop-j-preserved
-loop-j-preserved c = (search rules, all_more _ _ c.loop-j.invariant.1 (ap not (ne_eqb _ _ c.if-row-j.false)))
+loop-j-preserved c = all_more _ _ c.loop-j.invariant (ap not (ne_eqb _ _ c.if-row-j.false))
+
+pub returns : goal.returns
+returns c = search (rules, scan)
