@@ -1,14 +1,14 @@
 // The sections of a plant file: checks 5 and 6, a file that passes 1 to 6, the part that a section fills, and the section call.
 #![tactic(auto)]
 
-ghost use Rattle.std.specs.Prelude.{◌≡◌, ◌+◌, ◌<◌, ◌≤◌, length, IfOk};
+ghost use Rattle.std.specs.Prelude.{◌≡◌, ◌*◌, ◌≤◌, length, IfOk};
 ghost use Rattle.base.specs.Below.{all_below};
 ghost use Rattle.refusal.specs.Number.{answer_of};
-ghost use Rattle.layout.specs.Layout.{header_bytes, count, end, part};
+ghost use Rattle.layout.specs.Layout.{file_limit, width, limit, count, part};
 ghost use Rattle.layout.specs.Section.{section_number};
 ghost use Rattle.layout.specs.Header.{inside, all_inside, apart, all_apart, header_refusal, no_place, section_place, section_of};
 
-use header::{HEADER_BYTES, Header, length_ok};
+use header::{HEADER_BYTES, Header, length_ok, width_of};
 use layout::{Place, Section};
 use refusal::Refusal;
 
@@ -59,14 +59,30 @@ pub struct PlantFile<'a> {
     pub ghost placed: { header_refusal header.file.now ≡ 0 },
 }
 
+// The part of a file that a section fills: its records, how many they are, and how wide each is.
+#[derive(Clone, Copy)]
+pub struct Part<'a> {
+    pub bytes: &'a [u8],
+    pub width: usize,
+    pub count: usize,
+    pub ghost there: { count * width ≤ length bytes.now },
+    pub ghost within_limit: { count * width ≤ file_limit },
+}
+
 impl<'a> PlantFile<'a> {
-    // The part of the file that a section fills.
-    pub fn part(self, section: Section) -> &'a [u8]
-        ensures { result.now ≡ part self.entry.header.file.now (section_number section) }
+    pub fn part(self, section: Section) -> Part<'a>
+        ensures bytes { result.bytes.now ≡ part self.entry.header.file.now (section_number section) }
+        ensures width { result.width ≡ width (section_number section) }
+        ensures count { result.count ≡ count self.entry.header.file.now (section_number section) }
+        ensures few { result.count ≤ limit (section_number section) }
     {
         let begin = self.header.offset(section);
         let end = self.header.end(section);
-        &self.header.file[begin..end]
+        Part {
+            bytes: &self.header.file[begin..end],
+            width: width_of(section),
+            count: self.header.count(section),
+        }
     }
 }
 
