@@ -9,7 +9,7 @@ use lib.ListN.{length, take, drop}
 use borrow.Author.Tests.{eqb-true, ltb-true, lt-ltb, le-ltb}
 use Rattle.base.proofs.Logic.{split, and_true}
 use Rattle.layout.specs.declared.Place.{Place}
-use Rattle.layout.specs.Layout.{sections, offset, size, end}
+use Rattle.layout.specs.Layout.{sections, offset, end}
 use Rattle.layout.specs.Header.{header_refusal, has_section, section_of, no_place, section_place}
 use Rattle.layout.proofs.Header.{sections_inside}
 

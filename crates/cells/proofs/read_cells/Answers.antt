@@ -1,5 +1,5 @@
 -- A turn fills one cell more.
-use Rattle.std.proofs.Common.{◌∙◌, refl}
+use Rattle.std.proofs.Common.{◌∙◌}
 use Rattle.base.proofs.Filled.{fill_none, fill_next}
 use Rattle.cells.proofs.read_cells.Goals as goal
 

@@ -1,6 +1,5 @@
 -- Checks 1 to 6 hold, so the part lies within the file and has the section's records, which are no longer than a file.
 use Rattle.std.proofs.Common.{arith, rules}
-use Rattle.layout.specs.Layout.{Records}
 use Rattle.layout.specs.Section.{section_number}
 use Rattle.layout.proofs.Header.{counts_in_range, sections_inside}
 use Rattle.layout.proofs.Parts.{part_records, records_fit}
