@@ -1,5 +1,5 @@
 -- The section call: the two numbers of a section lie within the file and give the very part that the call returns. Assumes nothing.
-use mathlib.Core.Path.{◌≡◌, ap, ◌∙◌}
+use mathlib.Core.Path.{◌≡◌, ap, ap₂, ◌∙◌}
 use Prim.Native.Nat.{ℕ, ◌+◌, ◌-◌, ◌≤◌, ◌<◌, zero-le}
 use native.Mathlib.Nat.{add-sub_cancel_left}
 use mathlib.Core.List.{List}
@@ -12,6 +12,10 @@ use Rattle.layout.specs.declared.Place.{Place}
 use Rattle.layout.specs.Layout.{sections, offset, end}
 use Rattle.layout.specs.Header.{header_refusal, has_section, section_of, no_place, section_place}
 use Rattle.layout.proofs.Header.{sections_inside}
+
+-- a place of two zeros, as `Place::default` makes it
+pub place_empty : {place : Place} → (place.begin ≡ 0) × (place.length ≡ 0) → place ≡ no_place
+place_empty h = ap₂ (λ (b l : ℕ). record { begin = b; length = l }) h.0 h.1
 
 -- the part of the file that a place says
 abbrev pub part_at : List ℕ → Place → List ℕ

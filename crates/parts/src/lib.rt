@@ -6,7 +6,7 @@ ghost use Rattle.base.specs.Below.{all_below};
 ghost use Rattle.refusal.specs.Number.{answer_of};
 ghost use Rattle.layout.specs.Layout.{file_limit, width, limit, count, part};
 ghost use Rattle.layout.specs.Section.{section_number};
-ghost use Rattle.layout.specs.Header.{inside, all_inside, apart, all_apart, header_refusal, no_place, section_place, section_of};
+ghost use Rattle.layout.specs.Header.{inside, all_inside, apart, all_apart, header_refusal, section_place, section_of};
 
 use header::{HEADER_BYTES, Header, length_ok, width_of};
 use layout::{Place, Section};
@@ -114,24 +114,15 @@ pub fn check_header(file: &[u8]) -> Result<PlantFile<'_>, Refusal>
     Ok(PlantFile { header })
 }
 
-fn no_place() -> Place
-    ensures { result ≡ no_place }
-{
-    Place {
-        begin: 0,
-        length: 0,
-    }
-}
-
 // Where 01's section stands in the caller's bytes, for any bytes and any kind; an empty part at their start on refusal.
 pub fn section_place(file: &[u8], kind: usize) -> Place
     ensures { result ≡ section_place file.now kind }
 {
     let Ok(plant_file) = check_header(file) else {
-        return no_place();
+        return Place::default();
     };
     let Ok(section) = Section::try_from(kind) else {
-        return no_place();
+        return Place::default();
     };
     let begin = plant_file.header.offset(section);
     let end = plant_file.header.end(section);
