@@ -51,6 +51,6 @@ pub fn read(file: &[u8]) -> Result<Plant, Refusal>
 {
     check_header(file)?;
     let plant = plant_from(file);
-    check_plant(plant, zeros_in(file, Section::Lattices), other_zeros(file))?;
+    check_plant(&plant, zeros_in(file, Section::Lattices), other_zeros(file))?;
     Ok(plant)
 }
