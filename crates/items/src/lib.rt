@@ -1,98 +1,73 @@
 // Opening's checks 10 to 12 on the tanks, tasks and skids of a plant, in their order.
 #![tactic(auto)]
 
-ghost use Rattle.std.specs.Prelude.{◌≡◌, true, ◌+◌, ◌*◌, ◌<◌, ◌≤◌, get_or};
+ghost use Rattle.std.specs.Prelude.{◌≡◌, ℕ, ◌+◌, ◌*◌, ◌<◌, ◌≤◌};
 ghost use Rattle.base.specs.Below.{all_below};
-ghost use Rattle.plant.specs.Checks.{Fits, entry_below, levels_distinct, requirement_named_in, items_refusal};
+ghost use Rattle.plant.specs.Plant.{group_of, requirement_of};
+ghost use Rattle.plant.specs.Checks.{Fits, levels_distinct, requirement_named, requirements_named, items_refusal};
 ghost use Rattle.refusal.specs.Number.{answer_of};
 
 use entries::numbers_ok;
 use plant::Plant;
 use refusal::Refusal;
-use sets::wide;
+use sets::has;
 
 // The place of a group and a level in a table that has one for each of them.
 fn place(group: u8, level: u8) -> usize
     requires { group < 8 }
     ensures { (result ≡ level * 8 + group) × (result < 2048) }
 {
-    wide(level) * 8 + wide(group)
+    usize::from(level) * 8 + usize::from(group)
 }
 
 // 11: no two tanks of one group at one level: each tank in turn finds its place free, and takes it.
-fn levels_distinct(p: Plant) -> bool
-    requires fits { Fits p }
-    requires groups_in { all_below (entry_below p.tank_group 8) p.tanks ≡ true }
-    ensures { result ≡ levels_distinct p }
+fn levels_distinct(p: &Plant) -> bool
+    requires fits { Fits p.now }
+    requires groups_in { (o : ℕ) → o < p.now.tanks → group_of p.now o < 8 }
+    ensures { result ≡ levels_distinct p.now }
 {
-    let mut taken = [0u8; 2048];
-    let n = p.tanks as usize;
-    for a in 0..n {
-        let at = place(p.tank_group[a], p.tank_level[a]);
-        if taken[at] == 1 {
+    let mut taken = [false; 2048];
+    for o in 0..usize::from(p.tanks) {
+        let at = place(p.tank_group[o], p.tank_level[o]);
+        if taken[at] {
             return false;
         }
-        taken[at] = 1;
+        taken[at] = true;
     }
     true
 }
 
-// 12: the task names the requirement of group g where it names a right there.
-fn is_named(names: u8, right: u8, requirement: u8) -> bool
-    requires { requirement < 8 }
-    ensures { result ≡ requirement_named_in names right requirement }
+// 12: where task t names a right on group g, it names the requirement of g.
+fn requirement_named(p: &Plant, t: usize, g: usize) -> bool
+    requires places_in { (t < 16) × (g < 8) }
+    requires requirement_in { requirement_of p.now g < 8 }
+    ensures { result ≡ requirement_named p.now t g }
 {
-    if right == 0 {
-        return true;
-    }
-    (names >> requirement) % 2 == 1
+    let requirement = usize::from(p.group_requirement[g]);
+    p.task_rights[t * 8 + g] == 0 || has(u16::from(p.task_requirements[t]), requirement)
 }
 
-fn task_named<'a>(
-    names: u8,
-    rights: &'a [u8; 128],
-    requirement: &'a [u8; 8],
-    groups: usize,
-    t: usize,
-) -> bool
-    requires counts_in { (groups ≤ 8) × (t < 16) }
-    requires requirements_in { all_below (entry_below requirement.now 8) groups ≡ true }
-    ensures { result ≡ all_below (λ g. requirement_named_in names (get_or rights.now (t * 8 + g) 0) (get_or requirement.now g 0)) groups }
+fn task_named(p: &Plant, t: usize) -> bool
+    requires counts_in { (p.now.groups ≤ 8) × (t < 16) }
+    requires requirements_in { (g : ℕ) → g < p.now.groups → requirement_of p.now g < 8 }
+    ensures { result ≡ all_below (requirement_named p.now t) p.now.groups }
 {
-    for g in 0..groups {
-        if !is_named(names, rights[t * 8 + g], requirement[g]) {
-            return false;
-        }
-    }
-    true
+    (0..usize::from(p.groups)).all(|g| requirement_named(p, t, g))
 }
 
-fn requirements_named<'a>(
-    names: &'a [u8; 16],
-    rights: &'a [u8; 128],
-    requirement: &'a [u8; 8],
-    groups: u8,
-    tasks: u8,
-) -> bool
-    requires counts_in { (groups ≤ 8) × (tasks ≤ 16) }
-    requires requirements_in { all_below (entry_below requirement.now 8) groups ≡ true }
-    ensures { result ≡ all_below (λ t. all_below (λ g. requirement_named_in (get_or names.now t 0)
-        (get_or rights.now (t * 8 + g) 0) (get_or requirement.now g 0)) groups) tasks }
+fn requirements_named(p: &Plant) -> bool
+    requires fits { Fits p.now }
+    requires requirements_in { (g : ℕ) → g < p.now.groups → requirement_of p.now g < 8 }
+    ensures { result ≡ requirements_named p.now }
 {
-    let n = tasks as usize;
-    for t in 0..n {
-        if !task_named(names[t], rights, requirement, groups as usize, t) {
-            return false;
-        }
-    }
-    true
+    (0..usize::from(p.tasks)).all(|t| task_named(p, t))
 }
 
-// Checks 10 to 12.
-#[tactic(auto, unfolding(plant::specs::Checks::items_refusal, plant::specs::Checks::requirements_named))]
-pub fn check_items(p: Plant) -> Result<(), Refusal>
-    requires { Fits p }
-    ensures { answer_of result ≡ items_refusal p }
+// 10, 11 or 12.
+#[tactic(auto, unfolding(plant::specs::Checks::items_refusal))]
+pub fn check_items(p: &Plant) -> Result<(), Refusal>
+    requires { Fits p.now }
+    ensures { answer_of result ≡ items_refusal p.now }
 {
     if !numbers_ok(p) {
         return Err(Refusal::EntryOutOfRange);
@@ -100,13 +75,7 @@ pub fn check_items(p: Plant) -> Result<(), Refusal>
     if !levels_distinct(p) {
         return Err(Refusal::TanksAtOneLevel);
     }
-    if !requirements_named(
-        &p.task_requirements,
-        &p.task_rights,
-        &p.group_requirement,
-        p.groups,
-        p.tasks,
-    ) {
+    if !requirements_named(p) {
         return Err(Refusal::RequirementNotNamed);
     }
     Ok(())

@@ -16,7 +16,7 @@ use tested::call_tested;
 pub fn call(m: Monitor, kind: u8, a: u8, b: u8, c: u8, d: u8) -> Answered
     ensures { result ≡ step_of m (call_by kind a b c d) }
 {
-    if !is_intact(m) {
+    if !is_intact(&m) {
         return Answered {
             answer: 20,
             monitor: m,

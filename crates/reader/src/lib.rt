@@ -34,6 +34,6 @@ pub fn read(file: &[u8]) -> Result<Plant, Refusal>
     let plant_file = check_header(file)?;
     let plant = plant_from(plant_file);
     let lattice_zeros = zeros_at(plant_file, Section::Lattices, ZERO_BYTE);
-    check_plant(plant, lattice_zeros, other_zeros(plant_file))?;
+    check_plant(&plant, lattice_zeros, other_zeros(plant_file))?;
     Ok(plant)
 }

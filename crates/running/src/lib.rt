@@ -1,103 +1,51 @@
 // The running tasks of a monitor's record and their chosen tanks: whether each skid may run its task, and each tank is one of its group.
 #![tactic(auto)]
 
-ghost use Rattle.std.specs.Prelude.{◌≡◌, ◌<◌, ◌≤◌};
+ghost use Rattle.std.specs.Prelude.{◌≡◌, ◌<◌, ◌≤◌, get_or};
 ghost use Rattle.base.specs.Below.{all_below};
 ghost use Rattle.plant.specs.Checks.{Fits};
-ghost use Rattle.test20.specs.Raw.{task_in, tank_in, chosen_in, runs_in, skid_runs_in};
+ghost use Rattle.test20.specs.Raw.{task_in, tank_in, chosen_in, skid_runs_in};
 
 use plant::Plant;
-use sets::wide;
+use rules::Monitor;
+use sets::has;
 
 // A running task is one of the plant's and one that the skid may run.
-fn task_ok(may: &[u16; 8], tasks: u8, t: u8, s: usize) -> bool
-    requires { (tasks ≤ 16) × (s < 8) }
-    ensures { result ≡ task_in may.now tasks t s }
+fn task_ok(p: &Plant, t: u8, s: usize) -> bool
+    requires { (p.now.tasks ≤ 16) × (s < 8) }
+    ensures { result ≡ task_in p.now.skid_tasks p.now.tasks t s }
 {
-    if tasks <= t {
-        return false;
-    }
-    (may[s] >> t) % 2 == 1
+    t < p.tasks && has(p.skid_tasks[s], usize::from(t))
 }
 
 // Where the running task has no right, any byte passes as the chosen tank; 255 too.
-fn tank_ok(group: &[u8; 64], tanks: u8, right: u8, o: u8, g: usize) -> bool
-    requires { tanks ≤ 64 }
-    ensures { result ≡ tank_in group.now tanks right o g }
+fn tank_ok(p: &Plant, right: u8, o: u8, g: usize) -> bool
+    requires { p.now.tanks ≤ 64 }
+    ensures { result ≡ tank_in p.now.tank_group p.now.tanks right o g }
 {
-    if right == 0 {
-        return true;
-    }
-    if tanks <= o {
-        return false;
-    }
-    wide(group[wide(o)]) == g
+    right == 0 || (o < p.tanks && usize::from(p.tank_group[usize::from(o)]) == g)
 }
 
-fn tanks_ok<'a, 'b>(
-    rights: &'a [u8; 128],
-    group: &'a [u8; 64],
-    chosen: &'b [u8; 64],
-    groups: usize,
-    tanks: u8,
-    t: usize,
-    s: usize,
-) -> bool
-    requires { (groups ≤ 8) × ((tanks ≤ 64) × ((t < 16) × (s < 8))) }
-    ensures { result ≡ all_below (chosen_in rights.now group.now chosen.now tanks t s) groups }
+fn tanks_ok(m: &Monitor, t: usize, s: usize) -> bool
+    requires { (Fits m.now.plant) × ((t < 16) × (s < 8)) }
+    ensures { result ≡ all_below (chosen_in m.now.plant.task_rights m.now.plant.tank_group m.now.chosen m.now.plant.tanks t s) m.now.plant.groups }
 {
-    for g in 0..groups {
-        if !tank_ok(group, tanks, rights[t * 8 + g], chosen[s * 8 + g], g) {
-            return false;
-        }
-    }
-    true
+    let p = &m.plant;
+    (0..usize::from(p.groups)).all(|g| tank_ok(p, p.task_rights[t * 8 + g], m.chosen[s * 8 + g], g))
 }
 
 // What skid s runs, with its chosen tanks. 255 is no task and names no rights, so it is asked first.
-fn skid_runs_ok<'a, 'b>(
-    rights: &'a [u8; 128],
-    group: &'a [u8; 64],
-    may: &'a [u16; 8],
-    chosen: &'b [u8; 64],
-    tasks: u8,
-    groups: usize,
-    tanks: u8,
-    t: u8,
-    s: usize,
-) -> bool
-    requires { (tasks ≤ 16) × ((groups ≤ 8) × ((tanks ≤ 64) × (s < 8))) }
-    ensures { result ≡ runs_in rights.now group.now may.now chosen.now tasks groups tanks t s }
+fn skid_runs_ok(m: &Monitor, s: usize) -> bool
+    requires { (Fits m.now.plant) × (s < 8) }
+    ensures { result ≡ skid_runs_in m.now.plant m.now.running m.now.chosen s }
 {
-    if t == 255 {
-        return true;
-    }
-    if !task_ok(may, tasks, t, s) {
-        return false;
-    }
-    tanks_ok(rights, group, chosen, groups, tanks, wide(t), s)
+    let t = m.running[s];
+    t == 255 || (task_ok(&m.plant, t, s) && tanks_ok(m, usize::from(t), s))
 }
 
-pub fn runs_ok<'a>(p: Plant, running: &'a [u8; 8], chosen: &'a [u8; 64]) -> bool
-    requires { Fits p }
-    ensures { result ≡ all_below (skid_runs_in p running.now chosen.now) p.skids }
+pub fn runs_ok(m: &Monitor) -> bool
+    requires { Fits m.now.plant }
+    ensures { result ≡ all_below (skid_runs_in m.now.plant m.now.running m.now.chosen) m.now.plant.skids }
 {
-    let n = p.skids as usize;
-    let groups = p.groups as usize;
-    for s in 0..n {
-        if !skid_runs_ok(
-            &p.task_rights,
-            &p.tank_group,
-            &p.skid_tasks,
-            chosen,
-            p.tasks,
-            groups,
-            p.tanks,
-            running[s],
-            s,
-        ) {
-            return false;
-        }
-    }
-    true
+    (0..usize::from(m.plant.skids)).all(|s| skid_runs_ok(m, s))
 }

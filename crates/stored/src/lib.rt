@@ -1,35 +1,27 @@
 // The stored levels of a monitor's record: whether each is unset or one of its lattice.
 #![tactic(auto)]
 
-ghost use Rattle.std.specs.Prelude.{◌≡◌, true, ◌<◌, ◌≤◌, get_or};
+ghost use Rattle.std.specs.Prelude.{◌≡◌, ℕ, true, ◌<◌};
 ghost use Rattle.base.specs.Below.{all_below};
-ghost use Rattle.plant.specs.Checks.{entry_below};
-ghost use Rattle.test20.specs.Raw.{levels_of_requirement, levels_by_requirement, Free, level_in, row_level_in, skid_levels_in};
+ghost use Rattle.plant.specs.Plant.{lattice_of};
+ghost use Rattle.plant.specs.Checks.{Fits};
+ghost use Rattle.test20.specs.Raw.{most, Free, level_in, row_level_in, skid_levels_in};
 
-use sets::wide;
+use plant::Plant;
+use rules::Monitor;
 
-// How many levels a requirement has.
-fn levels_at<'a>(sizes: &'a [u8; 8], lattice: &'a [u8; 8], d: usize) -> u8
-    requires { (d < 8) × (get_or lattice.now d 0 < 8) }
-    ensures { result ≡ levels_of_requirement sizes.now lattice.now d }
-{
-    let l = wide(lattice[d]);
-    sizes[l]
-}
-
-// How many levels each requirement has. A level is looked up in this, so that its lattice is found once and not for each skid and task.
-pub fn levels_by_requirement<'a>(
-    sizes: &'a [u8; 8],
-    lattice: &'a [u8; 8],
-    requirements: usize,
-) -> [u8; 8]
-    requires requirements_in { requirements ≤ 8 }
-    requires lattices_in { all_below (entry_below lattice.now 8) requirements ≡ true }
-    ensures { result ≡ levels_by_requirement sizes.now lattice.now requirements }
+// How many levels each requirement has, so that its lattice is found once and not for each skid and task. Past the count it is 255, under
+// which every level passes.
+#[tactic(auto, using(base::proofs::Filled::filled))]
+fn levels_by_requirement(p: &Plant) -> [u8; 8]
+    requires fits { Fits p.now }
+    requires lattices_in { (d : ℕ) → d < p.now.requirements → lattice_of p.now d < 8 }
+    ensures made { result ≡ most p.now }
+    ensures past { Free result p.now.requirements }
 {
     let mut most = [255u8; 8];
-    for d in 0..requirements {
-        most[d] = levels_at(sizes, lattice, d);
+    for d in 0..usize::from(p.requirements) {
+        most[d] = p.levels_of(d);
     }
     most
 }
@@ -43,53 +35,30 @@ fn level_ok(v: u8, n: u8) -> bool
 }
 
 // The levels of one skid and task stand in one row. It looks at all eight and never leaves early, so that the loop has a fixed length.
-fn row_ok<'a>(levels: &'a [u8; 1024], most: &'a [u8; 8], requirements: usize, row: usize) -> bool
-    requires { (requirements ≤ 8) × ((row < 128) × Free most.now requirements) }
-    ensures { result ≡ all_below (row_level_in levels.now most.now row) requirements }
+#[tactic(auto, using(base::proofs::Scan::noted_none))]
+fn row_ok(m: &Monitor, levels: &[u8; 8], row: usize) -> bool
+    requires { (Fits m.now.plant) × ((row < 128) × Free levels.now m.now.plant.requirements) }
+    ensures { result ≡ all_below (row_level_in m.now.levels levels.now row) m.now.plant.requirements }
 {
     let mut ok = true;
-    let mut d: usize = 0;
-    while d < 8 {
-        if !level_ok(levels[row * 8 + d], most[d]) {
-            ok = false;
-        }
-        d += 1;
+    for d in 0..8 {
+        ok &= level_ok(m.levels[row * 8 + d], levels[d]);
     }
     ok
 }
 
-fn skid_levels_ok<'a>(
-    levels: &'a [u8; 1024],
-    most: &'a [u8; 8],
-    requirements: usize,
-    tasks: usize,
-    s: usize,
-) -> bool
-    requires { (requirements ≤ 8) × ((tasks ≤ 16) × ((s < 8) × Free most.now requirements)) }
-    ensures { result ≡ skid_levels_in levels.now most.now requirements tasks s }
+fn skid_levels_ok(m: &Monitor, levels: &[u8; 8], s: usize) -> bool
+    requires { (Fits m.now.plant) × ((s < 8) × Free levels.now m.now.plant.requirements) }
+    ensures { result ≡ skid_levels_in m.now.levels levels.now m.now.plant.requirements m.now.plant.tasks s }
 {
-    for t in 0..tasks {
-        if !row_ok(levels, most, requirements, s * 16 + t) {
-            return false;
-        }
-    }
-    true
+    (0..usize::from(m.plant.tasks)).all(|t| row_ok(m, levels, s * 16 + t))
 }
 
-pub fn levels_ok<'a>(
-    levels: &'a [u8; 1024],
-    most: &'a [u8; 8],
-    requirements: usize,
-    tasks: usize,
-    skids: usize,
-) -> bool
-    requires { (requirements ≤ 8) × ((tasks ≤ 16) × ((skids ≤ 8) × Free most.now requirements)) }
-    ensures { result ≡ all_below (skid_levels_in levels.now most.now requirements tasks) skids }
+pub fn levels_ok(m: &Monitor) -> bool
+    requires fits { Fits m.now.plant }
+    requires lattices_in { (d : ℕ) → d < m.now.plant.requirements → lattice_of m.now.plant d < 8 }
+    ensures { result ≡ all_below (skid_levels_in m.now.levels (most m.now.plant) m.now.plant.requirements m.now.plant.tasks) m.now.plant.skids }
 {
-    for s in 0..skids {
-        if !skid_levels_ok(levels, most, requirements, tasks, s) {
-            return false;
-        }
-    }
-    true
+    let levels = levels_by_requirement(&m.plant);
+    (0..usize::from(m.plant.skids)).all(|s| skid_levels_ok(m, &levels, s))
 }

@@ -12,8 +12,8 @@ use Rattle.base.proofs.Below.{all_yes, all_at, all_same}
 use Rattle.base.proofs.Filled.{fill_at, fill_past}
 use Rattle.base.proofs.Logic.{split, same_test, and_true, and_intro}
 use Rattle.plant.specs.declared.Plant.{Plant}
-use Rattle.plant.specs.Plant.{rights_of}
-use Rattle.plant.specs.Checks.{Fits, entry_below, plant_refusal}
+use Rattle.plant.specs.Plant.{lattice_of, rights_of}
+use Rattle.plant.specs.Checks.{Fits, plant_refusal}
 use Rattle.plant.specs.Valid.{Valid}
 use Rattle.plant.proofs.Sound.{sound_law}
 use Rattle.plant.proofs.Valid.{valid}
@@ -78,8 +78,8 @@ module _ (P : Plant) {k : ℕ} (e : k ≡ plant_refusal true true P) where
     pub fits : Fits P
     fits = known.counts
 
-    pub lattices_in : all_below (entry_below P.requirement_lattice 8) P.requirements ≡ true
-    lattices_in = all_yes P.requirements (entry_below P.requirement_lattice 8) (λ d l. let i : get_or P.requirement_lattice d 0 < 8 = omega (arith, fits.lattices_fit, known.lattice_in d l) in lt-ltb _ _ i)
+    pub lattices_in : (d : ℕ) → d < P.requirements → lattice_of P d < 8
+    lattices_in d l = omega (arith, fits.lattices_fit, known.lattice_in d l)
 
     -- r is what the test of the changing parts returned
     pub intact_same : (m : Monitor) {r : Bool} → r ≡ parts_in P m.levels m.running m.chosen → r ≡ intact P m

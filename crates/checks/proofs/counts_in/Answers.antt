@@ -8,4 +8,4 @@ use Rattle.checks.proofs.counts_in.Goals as goal
 
 pub returns : goal.returns
 unfolding counts_in
-returns c = all_tested (λ k. count_ok k (get_or (counts_of c.args.p) k 0)) _ _ _ c.all.ensures.ran (cc) (λ x b q k. search (rules, tests))
+returns c = all_tested (λ k. count_ok k (get_or (counts_of c.args.p.now) k 0)) _ _ _ c.all.ensures.ran (cc) (λ x b q k. search (rules, tests))

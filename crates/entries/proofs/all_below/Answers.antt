@@ -1,13 +1,7 @@
--- The rules of a scan whose test is a comparison.
-use Rattle.std.proofs.Common.{rules}
-use Rattle.base.proofs.Scan.{scan_compare}
+-- Each of the first n entries is asked.
+use Rattle.std.proofs.Common.{ℕ, rules, tests, ltb}
+use Rattle.base.proofs.AllAny.{all_in_front}
 use Rattle.entries.proofs.all_below.Goals as goal
 
-pub loop-i-init : goal.loop-i-init
-loop-i-init c = search (rules, scan_compare)
-
-pub returns-then-bound-xs : goal.returns-then-bound-xs
-returns-then-bound-xs c = search (rules, scan_compare)
-
-pub loop-i-preserved : goal.loop-i-preserved
-loop-i-preserved c = search (rules, scan_compare)
+pub returns : goal.returns
+returns c = all_in_front (λ (x : ℕ). ltb x c.args.bound) 0 _ _ c.all.ensures.ran (cc) (search rules) (λ x b q k. search (rules, tests))

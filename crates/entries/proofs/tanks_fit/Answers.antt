@@ -1,7 +1,7 @@
--- By the levels of each group a tank fits where it fits by its group's lattice.
-use Rattle.std.proofs.Common.{◌∙◌}
-use Rattle.plant.proofs.Links.{tanks_same}
+-- Each tank is asked.
+use Rattle.std.proofs.Common.{rules}
+use Rattle.base.proofs.AllAny.{all_in_range}
 use Rattle.entries.proofs.tanks_fit.Goals as goal
 
 pub returns : goal.returns
-returns c = c.tanks_within.ensures ∙ rw c.levels_by_group-levels.ensures (tanks_same c.args.p c.requires.fits.groups_fit)
+returns c = all_in_range _ _ c.all.ensures.ran (cc) (λ x b q k. search rules)

@@ -5,6 +5,6 @@ use Rattle.plant.specs.Checks.{at_one_level}
 use Rattle.plant.proofs.Places.{taken_by}
 use Rattle.items.proofs.levels_distinct.Given as goal
 
-abbrev pub invariant-loop-a : goal.invariant-loop-a
-invariant-loop-a l =
-    (l.taken ≡ taken_by l.p l.a) × (all_below (λ (x : ℕ). all_below (λ (y : ℕ). not (at_one_level l.p x y)) x) l.a ≡ true)
+abbrev pub invariant-loop-o : goal.invariant-loop-o
+invariant-loop-o l =
+    (l.taken ≡ taken_by l.p l.o) × (all_below (λ (x : ℕ). all_below (λ (y : ℕ). not (at_one_level l.p x y)) x) l.o ≡ true)

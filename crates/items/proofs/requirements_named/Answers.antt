@@ -1,13 +1,9 @@
--- The rules of a scan.
+-- Each task is asked.
 use Rattle.std.proofs.Common.{rules}
-use Rattle.base.proofs.Scan.{scan}
+use Rattle.base.proofs.AllAny.{all_in_range}
+use Rattle.plant.specs.Checks.{requirements_named}
 use Rattle.items.proofs.requirements_named.Goals as goal
 
-pub loop-t-init : goal.loop-t-init
-loop-t-init c = search (rules, scan)
-
-pub returns-then-not-task_named : goal.returns-then-not-task_named
-returns-then-not-task_named c = search (rules, scan)
-
-pub loop-t-preserved : goal.loop-t-preserved
-loop-t-preserved c = search (rules, scan)
+pub returns : goal.returns
+unfolding requirements_named
+returns c = all_in_range _ _ c.all.ensures.ran (cc) (λ x b q k. search rules)

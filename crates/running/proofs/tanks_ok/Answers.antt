@@ -1,13 +1,7 @@
--- The rules of a scan.
+-- Each group is asked.
 use Rattle.std.proofs.Common.{rules}
-use Rattle.base.proofs.Scan.{scan}
+use Rattle.base.proofs.AllAny.{all_in_range}
 use Rattle.running.proofs.tanks_ok.Goals as goal
 
-pub loop-g-init : goal.loop-g-init
-loop-g-init c = search (rules, scan)
-
-pub returns-then-not-tank_ok : goal.returns-then-not-tank_ok
-returns-then-not-tank_ok c = search (rules, scan)
-
-pub loop-g-preserved : goal.loop-g-preserved
-loop-g-preserved c = search (rules, scan)
+pub returns : goal.returns
+returns c = all_in_range _ _ c.all.ensures.ran (cc) (λ x b q k. search rules)

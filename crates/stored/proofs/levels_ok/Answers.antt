@@ -1,13 +1,7 @@
--- The rules of a scan.
+-- Each skid is asked.
 use Rattle.std.proofs.Common.{rules}
-use Rattle.base.proofs.Scan.{scan}
+use Rattle.base.proofs.AllAny.{all_in_range}
 use Rattle.stored.proofs.levels_ok.Goals as goal
 
-pub loop-s-init : goal.loop-s-init
-loop-s-init c = search (rules, scan)
-
-pub returns-then-not-skid_levels_ok : goal.returns-then-not-skid_levels_ok
-returns-then-not-skid_levels_ok c = search (rules, scan)
-
-pub loop-s-preserved : goal.loop-s-preserved
-loop-s-preserved c = search (rules, scan)
+pub returns : goal.returns
+returns c = all_in_range _ _ c.all.ensures.ran (cc) (λ x b q k. search rules)

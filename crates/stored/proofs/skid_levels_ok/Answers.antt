@@ -1,13 +1,7 @@
--- The rules of a scan.
+-- Each task is asked.
 use Rattle.std.proofs.Common.{rules}
-use Rattle.base.proofs.Scan.{scan}
+use Rattle.base.proofs.AllAny.{all_in_range}
 use Rattle.stored.proofs.skid_levels_ok.Goals as goal
 
-pub loop-t-init : goal.loop-t-init
-loop-t-init c = search (rules, scan)
-
-pub returns-then-not-row_ok : goal.returns-then-not-row_ok
-returns-then-not-row_ok c = search (rules, scan)
-
-pub loop-t-preserved : goal.loop-t-preserved
-loop-t-preserved c = search (rules, scan)
+pub returns : goal.returns
+returns c = all_in_range _ _ c.all.ensures.ran (cc) (λ x b q k. search rules)

@@ -1,7 +1,8 @@
--- A skid that may run a task past the count, where it comes next, refuses the scan.
-use Rattle.std.proofs.Common.{sym, ◌∙◌}
-use Rattle.base.proofs.Scan.{all_stops}
+-- Each skid is asked.
+use Rattle.std.proofs.Common.{rules}
+use Rattle.base.specs.Bits.{none_from}
+use Rattle.base.proofs.AllAny.{all_in_front}
 use Rattle.tasks.proofs.skids_fit.Goals as goal
 
-pub returns-then-not-none_from : goal.returns-then-not-none_from
-returns-then-not-none_from c = all_stops _ _ _ c.loop-s-test.true (sym c.none_from.ensures ∙ c.if-not-none_from.true)
+pub returns : goal.returns
+returns c = all_in_front (none_from c.args.p.now.tasks) 0 _ _ c.all.ensures.ran (cc) (search rules) (λ x b q k. search rules)

@@ -1,7 +1,7 @@
--- A task that does not fit, where it comes next, refuses the scan.
-use Rattle.std.proofs.Common.{sym, ◌∙◌}
-use Rattle.base.proofs.Scan.{all_stops}
+-- Each task is asked.
+use Rattle.std.proofs.Common.{rules}
+use Rattle.base.proofs.AllAny.{all_in_range}
 use Rattle.tasks.proofs.tasks_fit.Goals as goal
 
-pub returns-then-not-task_fits : goal.returns-then-not-task_fits
-returns-then-not-task_fits c = all_stops _ _ _ c.loop-t-test.true (sym c.task_fits.ensures ∙ c.if-not-task_fits.true)
+pub returns : goal.returns
+returns c = all_in_range _ _ c.all.ensures.ran (cc) (λ x b q k. search rules)
