@@ -8,6 +8,7 @@ ghost use Rattle.rules.specs.Record.{fresh};
 ghost use Rattle.rules.specs.Run.{runs, ends};
 ghost use Rattle.calls.specs.RequestBytes.{request_at, calls_of};
 
+use calls::{Kept, Request};
 use plant::Plant;
 use rules::Monitor;
 use turns::turn;
@@ -39,25 +40,17 @@ pub fn serve(p: Plant, bytes: &[u8], n: usize, out: &mut [u8]) -> Monitor
         running: [255u8; 8],
         chosen: [255u8; 64],
     };
-    let mut made = [254u8; 128];
-    let mut needs = [0u16; 16];
-    let mut granted = [0u8; 64];
+    let mut kept = Kept::new();
     for i in 0..n {
         let r = request_at(bytes, i);
-        out[i] = turn(
-            &m.plant,
-            &mut m.levels,
-            &mut m.running,
-            &mut m.chosen,
-            &mut made,
-            &mut needs,
-            &mut granted,
-            r[0],
-            r[1],
-            r[2],
-            r[3],
-            r[4],
-        );
+        let request = Request {
+            kind: r[0],
+            a: r[1],
+            b: r[2],
+            c: r[3],
+            d: r[4],
+        };
+        out[i] = turn(&mut m, &mut kept, request);
     }
     m
 }

@@ -23,8 +23,7 @@ fn write_outcome(p: Plant, requests: &[u8], n: usize, out: &mut [u8])
 {
     let m = serve(p, requests, n, out);
     write_held(
-        &m.plant.tank_group,
-        &m.plant.task_rights,
+        &m.plant,
         &m.running,
         &m.chosen,
         m.plant.skids,

@@ -6,7 +6,7 @@ ghost use Rattle.base.specs.Overlay.{overlay, Wrote};
 ghost use Rattle.listing.specs.Work.{Known, right_bytes_in, tank_bytes_in, skid_bytes_in, skids_bytes_in, list_bytes_in};
 
 use gates::is_held;
-use plant::Right;
+use plant::{Plant, Right};
 
 fn put_right(out: &mut [u8], at: usize, skid: u8, tank: u8, right: u8) -> usize
     requires { at + 3 ≤ length out.old }
@@ -22,8 +22,7 @@ fn put_right(out: &mut [u8], at: usize, skid: u8, tank: u8, right: u8) -> usize
 
 // Right r on tank o, if skid s holds it.
 fn write_right<'a, 'b>(
-    group: &'a [u8; 64],
-    rights: &'a [u8; 128],
+    p: &'a Plant,
     running: &'b [u8; 8],
     chosen: &'b [u8; 64],
     skids: u8,
@@ -34,12 +33,12 @@ fn write_right<'a, 'b>(
     out: &mut [u8],
     at: usize,
 ) -> usize
-    requires known { Known group.now running.now skids tanks }
+    requires known { Known p.now.tank_group running.now skids tanks }
     requires s_lt_skids { (s < skids) × (o < tanks) }
-    requires r_in_bounds { at + length (right_bytes_in group.now rights.now running.now chosen.now s o r) ≤ length out.old }
-    ensures { Wrote (right_bytes_in group.now rights.now running.now chosen.now s o r) out.old at out.new result }
+    requires r_in_bounds { at + length (right_bytes_in p.now.tank_group p.now.task_rights running.now chosen.now s o r) ≤ length out.old }
+    ensures { Wrote (right_bytes_in p.now.tank_group p.now.task_rights running.now chosen.now s o r) out.old at out.new result }
 {
-    if is_held(group, rights, running, chosen, s as usize, o, r) {
+    if is_held(p, running, chosen, s as usize, o, r) {
         return put_right(out, at, s, o, r);
     }
     at
@@ -47,8 +46,7 @@ fn write_right<'a, 'b>(
 
 // The rights on tank o in their order, so that the list rises.
 fn write_tank<'a, 'b>(
-    group: &'a [u8; 64],
-    rights: &'a [u8; 128],
+    p: &'a Plant,
     running: &'b [u8; 8],
     chosen: &'b [u8; 64],
     skids: u8,
@@ -58,24 +56,23 @@ fn write_tank<'a, 'b>(
     out: &mut [u8],
     at: usize,
 ) -> usize
-    requires known { Known group.now running.now skids tanks }
+    requires known { Known p.now.tank_group running.now skids tanks }
     requires s_lt_skids { (s < skids) × (o < tanks) }
-    requires o_in_bounds { at + length (tank_bytes_in group.now rights.now running.now chosen.now s o) ≤ length out.old }
-    ensures { Wrote (tank_bytes_in group.now rights.now running.now chosen.now s o) out.old at out.new result }
+    requires o_in_bounds { at + length (tank_bytes_in p.now.tank_group p.now.task_rights running.now chosen.now s o) ≤ length out.old }
+    ensures { Wrote (tank_bytes_in p.now.tank_group p.now.task_rights running.now chosen.now s o) out.old at out.new result }
 {
     let numbers = Right::all();
     let mut end = at;
     for i in 0..numbers.len() {
         end = write_right(
-            group, rights, running, chosen, skids, tanks, s, o, numbers[i], out, end,
+            p, running, chosen, skids, tanks, s, o, numbers[i], out, end,
         );
     }
     end
 }
 
 fn write_skid<'a, 'b>(
-    group: &'a [u8; 64],
-    rights: &'a [u8; 128],
+    p: &'a Plant,
     running: &'b [u8; 8],
     chosen: &'b [u8; 64],
     skids: u8,
@@ -84,23 +81,22 @@ fn write_skid<'a, 'b>(
     out: &mut [u8],
     at: usize,
 ) -> usize
-    requires known { Known group.now running.now skids tanks }
+    requires known { Known p.now.tank_group running.now skids tanks }
     requires s_lt_skids { s < skids }
-    requires s_in_bounds { at + length (skid_bytes_in group.now rights.now running.now chosen.now tanks s) ≤ length out.old }
-    ensures { Wrote (skid_bytes_in group.now rights.now running.now chosen.now tanks s) out.old at out.new result }
+    requires s_in_bounds { at + length (skid_bytes_in p.now.tank_group p.now.task_rights running.now chosen.now tanks s) ≤ length out.old }
+    ensures { Wrote (skid_bytes_in p.now.tank_group p.now.task_rights running.now chosen.now tanks s) out.old at out.new result }
 {
     let mut end = at;
     let mut o: u8 = 0;
     while o < tanks {
-        end = write_tank(group, rights, running, chosen, skids, tanks, s, o, out, end);
+        end = write_tank(p, running, chosen, skids, tanks, s, o, out, end);
         o += 1;
     }
     end
 }
 
 fn write_skids<'a, 'b>(
-    group: &'a [u8; 64],
-    rights: &'a [u8; 128],
+    p: &'a Plant,
     running: &'b [u8; 8],
     chosen: &'b [u8; 64],
     skids: u8,
@@ -108,14 +104,14 @@ fn write_skids<'a, 'b>(
     out: &mut [u8],
     at: usize,
 ) -> usize
-    requires known { Known group.now running.now skids tanks }
-    requires tanks_in_bounds { at + length (skids_bytes_in group.now rights.now running.now chosen.now skids tanks) ≤ length out.old }
-    ensures { Wrote (skids_bytes_in group.now rights.now running.now chosen.now skids tanks) out.old at out.new result }
+    requires known { Known p.now.tank_group running.now skids tanks }
+    requires tanks_in_bounds { at + length (skids_bytes_in p.now.tank_group p.now.task_rights running.now chosen.now skids tanks) ≤ length out.old }
+    ensures { Wrote (skids_bytes_in p.now.tank_group p.now.task_rights running.now chosen.now skids tanks) out.old at out.new result }
 {
     let mut end = at;
     let mut s: u8 = 0;
     while s < skids {
-        end = write_skid(group, rights, running, chosen, skids, tanks, s, out, end);
+        end = write_skid(p, running, chosen, skids, tanks, s, out, end);
         s += 1;
     }
     end
@@ -131,18 +127,17 @@ fn rights_in(bytes: usize) -> u8
 
 // The list from the buffer's first byte on. The count is known once the rights are written.
 pub fn write_held<'a, 'b>(
-    group: &'a [u8; 64],
-    rights: &'a [u8; 128],
+    p: &'a Plant,
     running: &'b [u8; 8],
     chosen: &'b [u8; 64],
     skids: u8,
     tanks: u8,
     out: &mut [u8],
 )
-    requires known { Known group.now running.now skids tanks }
+    requires known { Known p.now.tank_group running.now skids tanks }
     requires in_bounds { 577 ≤ length out.old }
-    ensures { out.new ≡ overlay out.old 0 (list_bytes_in group.now rights.now running.now chosen.now skids tanks) }
+    ensures { out.new ≡ overlay out.old 0 (list_bytes_in p.now.tank_group p.now.task_rights running.now chosen.now skids tanks) }
 {
-    let end = write_skids(group, rights, running, chosen, skids, tanks, out, 1);
+    let end = write_skids(p, running, chosen, skids, tanks, out, 1);
     out[0] = rights_in(end - 1);
 }

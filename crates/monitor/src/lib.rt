@@ -8,7 +8,8 @@ ghost use Rattle.requests.specs.Calls.{step_of};
 ghost use Rattle.requests.specs.Requests.{call_of};
 
 use intact::is_intact;
-use requests::{Answered, Request};
+use calls::Request;
+use requests::Answered;
 use rules::Monitor;
 use tested::call_tested;
 

@@ -7,7 +7,8 @@ ghost use Rattle.calls.specs.Lent.{call_by};
 ghost use Rattle.requests.specs.Calls.{step_of};
 ghost use Rattle.requests.specs.Requests.{call_of};
 
-use requests::{Answered, Request};
+use calls::Request;
+use requests::Answered;
 use rules::Monitor;
 use single::call_at;
 
@@ -21,18 +22,7 @@ pub fn advance(m: Monitor, r: Request) -> Answered
         answer: 0,
         monitor: m,
     };
-    let after = &mut x.monitor;
-    x.answer = call_at(
-        &after.plant,
-        &mut after.levels,
-        &mut after.running,
-        &mut after.chosen,
-        r.kind,
-        r.a,
-        r.b,
-        r.c,
-        r.d,
-    );
+    x.answer = call_at(&mut x.monitor, r);
     x
 }
 
@@ -46,17 +36,6 @@ pub fn call_tested(m: Monitor, kind: u8, a: u8, b: u8, c: u8, d: u8) -> Answered
         answer: 0,
         monitor: m,
     };
-    let left = &mut x.monitor;
-    x.answer = call_at(
-        &left.plant,
-        &mut left.levels,
-        &mut left.running,
-        &mut left.chosen,
-        kind,
-        a,
-        b,
-        c,
-        d,
-    );
+    x.answer = call_at(&mut x.monitor, Request { kind, a, b, c, d });
     x
 }

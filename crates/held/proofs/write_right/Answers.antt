@@ -8,7 +8,7 @@ use Rattle.held.proofs.write_right.Goals as goal
 pub is_held-requires-clause-o_bound : goal.is_held-requires-clause-o_bound
 is_held-requires-clause-o_bound c =
     let k = c.requires.known in (
-      entry_at c.args.group.now 8 c.args.tanks c.args.o k.groups_there c.requires.s_lt_skids.1,
+      entry_at c.args.p.now.tank_group 8 c.args.tanks c.args.o k.groups_there c.requires.s_lt_skids.1,
       all_at c.args.skids (task_known c.args.running.now) k.tasks_known c.args.s c.requires.s_lt_skids.0,
     )
 

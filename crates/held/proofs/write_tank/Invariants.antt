@@ -7,4 +7,4 @@ use Rattle.listing.specs.Work.{right_bytes_in}
 use Rattle.held.proofs.write_tank.Given as goal
 
 abbrev pub invariant-loop-i : goal.invariant-loop-i
-invariant-loop-i l = (l.i ≤ 3) × Wrote (collect (λ k. right_bytes_in l.group l.rights l.running l.chosen l.s l.o (get_or all_rights k 0)) l.i) l.initial.out l.at l.out l.end
+invariant-loop-i l = (l.i ≤ 3) × Wrote (collect (λ k. right_bytes_in l.p.tank_group l.p.task_rights l.running l.chosen l.s l.o (get_or all_rights k 0)) l.i) l.initial.out l.at l.out l.end
