@@ -20,6 +20,9 @@ ruled (Gate skid tank right) = rules.gate skid tank right
 abbrev pub AsksFor : Request → Result Call Refusal → Type 0
 AsksFor r asked = MatchResult asked (λ call. call_by r.kind r.a r.b r.c r.d ≡ ruled call) (λ refusal. (refusal ≡ NoSuchKind) × (call_by r.kind r.a r.b r.c r.d ≡ rules.unknown))
 
+abbrev pub RequestFor : Call → Request → Type 0
+RequestFor call r = call_by r.kind r.a r.b r.c r.d ≡ ruled call
+
 -- whether it is missing, and the refusal if so
 abbrev pub missing_item : Bool × Refusal → Test
 missing_item item = item.0 gives number_of item.1

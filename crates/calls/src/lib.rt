@@ -8,7 +8,7 @@ ghost use Rattle.plant.specs.declared.Plant.{Plant};
 ghost use Rattle.refusal.specs.Number.{answer_of};
 ghost use Rattle.rules.specs.Record.{fresh};
 ghost use Rattle.calls.specs.Lent.{Keeps};
-ghost use Rattle.calls.specs.Requests.{AsksFor, missing_item};
+ghost use Rattle.calls.specs.Requests.{AsksFor, RequestFor, missing_item};
 
 use refusal::Refusal;
 
@@ -70,6 +70,48 @@ impl TryFrom<Request> for Call {
                 right: r.c,
             }),
             _ => Err(Refusal::NoSuchKind),
+        }
+    }
+}
+
+impl From<Call> for Request {
+    ghost from_gives = { RequestFor };
+
+    fn from(call: Call) -> Request {
+        match call {
+            Call::Set {
+                skid,
+                task,
+                requirement,
+                level,
+            } => Request {
+                kind: 0,
+                a: skid,
+                b: task,
+                c: requirement,
+                d: level,
+            },
+            Call::Start { skid, task } => Request {
+                kind: 1,
+                a: skid,
+                b: task,
+                c: 0,
+                d: 0,
+            },
+            Call::Stop { skid } => Request {
+                kind: 2,
+                a: skid,
+                b: 0,
+                c: 0,
+                d: 0,
+            },
+            Call::Gate { skid, tank, right } => Request {
+                kind: 3,
+                a: skid,
+                b: tank,
+                c: right,
+                d: 0,
+            },
         }
     }
 }
