@@ -24,6 +24,7 @@ fn table(levels: &Levels) -> [[u8; 16]; 16]
 
 // A `for` over a row by value, which becomes one comparison of sixteen bytes: with `.all(..)`, or with the row lent, the test of a lattice of sixteen
 // levels takes a third more instructions.
+#[tactic(auto, using(base::proofs::Scan::scan_compare))]
 fn is_row_full(row: [u8; 16], n: usize) -> bool
     requires { n ≤ 16 }
     ensures { result ≡ row_full n row }

@@ -39,6 +39,7 @@ fn laid_out(lattice: &Lattice) -> bool
 }
 
 // Checks 7 to 9 of a lattice record.
+#[tactic(auto, using(base::proofs::Chain::checks), unfolding(lattice::specs::Levels::lattice_refusal))]
 pub fn check_lattice(lattice: &Lattice) -> Result<(), Refusal>
     ensures { answer_of result ≡ lattice_refusal lattice.now }
 {
