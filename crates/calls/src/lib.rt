@@ -144,7 +144,11 @@ impl Kept {
 pub fn check_items(missing: [(bool, Refusal); 3]) -> Result<(), Refusal>
     ensures { answer_of result ≡ first (map missing_item missing) }
 {
-    let [(first, first_refusal), (second, second_refusal), (third, third_refusal)] = missing;
+    let [
+        (first, first_refusal),
+        (second, second_refusal),
+        (third, third_refusal),
+    ] = missing;
     if !(first | second | third) {
         return Ok(());
     }

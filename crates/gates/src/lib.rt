@@ -39,7 +39,7 @@ pub fn gate_at(
     Ok(is_held(p, running, chosen, usize::from(s), o, r))
 }
 
-// The same in a list, by the rights granted.
+// The same in a list, by the rights granted. Each of the two is its two lines: over a lookup that is passed in, they would want its contract too.
 pub fn gate_granted(
     p: &Plant,
     granted: &[u8; 64],
@@ -57,14 +57,7 @@ pub fn gate_granted(
 
 // Whether skid s holds right r on tank o, by the rights granted. Both halves are read without a branch, since the processor cannot predict the
 // answer.
-fn is_granted(
-    p: &Plant,
-    granted: &[u8; 64],
-    chosen: &[u8; 64],
-    s: usize,
-    o: u8,
-    r: u8,
-) -> bool
+fn is_granted(p: &Plant, granted: &[u8; 64], chosen: &[u8; 64], s: usize, o: u8, r: u8) -> bool
     requires s_bound { (s < 8) × (o < 64) }
     requires o_bound { get_or p.now.tank_group o 0 < 8 }
     ensures { result ≡ granted_in p.now.tank_group granted.now chosen.now s o r }
@@ -74,15 +67,9 @@ fn is_granted(
     (chosen[at] == o) & (x & Right::mask(r) != 0)
 }
 
-// Whether skid s holds right r on tank o, by the record.
-pub fn is_held(
-    p: &Plant,
-    running: &[u8; 8],
-    chosen: &[u8; 64],
-    s: usize,
-    o: u8,
-    r: u8,
-) -> bool
+// Whether skid s holds right r on tank o, by the record. A skid that runs nothing is asked no further, since the list of rights asks every tank of
+// every skid.
+pub fn is_held(p: &Plant, running: &[u8; 8], chosen: &[u8; 64], s: usize, o: u8, r: u8) -> bool
     requires s_bound { (s < 8) × (o < 64) }
     requires o_bound { (get_or p.now.tank_group o 0 < 8) × (task_known running.now s ≡ true) }
     ensures { result ≡ held_in p.now.tank_group p.now.task_rights running.now chosen.now s o r }

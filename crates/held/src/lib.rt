@@ -64,9 +64,7 @@ fn write_tank<'a, 'b>(
     let numbers = Right::all();
     let mut end = at;
     for i in 0..numbers.len() {
-        end = write_right(
-            p, running, chosen, skids, tanks, s, o, numbers[i], out, end,
-        );
+        end = write_right(p, running, chosen, skids, tanks, s, o, numbers[i], out, end);
     }
     end
 }

@@ -24,7 +24,14 @@ fn start_alone(m: &mut Monitor, s: u8, t: u8) -> Result<(), Refusal>
     start_early(&m.plant, &m.running, s, t)?;
     let need = need_of(&m.plant, usize::from(t));
     let mut made = [255; 128];
-    put_choices_for(&m.plant, &m.levels, &mut made, need, usize::from(s), usize::from(t));
+    put_choices_for(
+        &m.plant,
+        &m.levels,
+        &mut made,
+        need,
+        usize::from(s),
+        usize::from(t),
+    );
     start_late(m, &made, s, t, need)
 }
 
@@ -34,15 +41,19 @@ pub fn call_at(m: &mut Monitor, r: Request) -> u8
     ensures { Does m.old (call_by r.kind r.a r.b r.c r.d) result m.new }
 {
     match Call::try_from(r) {
-        Ok(Call::Set {
-            skid,
-            task,
-            requirement,
-            level,
-        }) => answer(set_at(&m.plant, &mut m.levels, skid, task, requirement, level)),
+        Ok(
+            Call::Set {
+                skid,
+                task,
+                requirement,
+                level,
+            },
+        ) => answer(set_at(&m.plant, &mut m.levels, skid, task, requirement, level)),
         Ok(Call::Start { skid, task }) => answer(start_alone(m, skid, task)),
         Ok(Call::Stop { skid }) => answer(stop_at(&m.plant, &mut m.running, &mut m.chosen, skid)),
-        Ok(Call::Gate { skid, tank, right }) => gate_answer(gate_at(&m.plant, &m.running, &m.chosen, skid, tank, right)),
+        Ok(Call::Gate { skid, tank, right }) => gate_answer(gate_at(
+            &m.plant, &m.running, &m.chosen, skid, tank, right,
+        )),
         Err(refusal) => refusal.number(),
     }
 }

@@ -40,18 +40,19 @@ pub fn start_early(p: &Plant, running: &[u8; 8], s: u8, t: u8) -> Result<(), Ref
 
 // The rest of a start, whose choices are looked up in `made` and whose groups are the set `need`: 27, 28, or the task runs and its groups get their
 // choice, the skid's other groups 255.
-pub fn start_late(
-    m: &mut Monitor,
-    made: &[u8; 128],
-    s: u8,
-    t: u8,
-    need: u16,
-) -> Result<(), Refusal>
+pub fn start_late(m: &mut Monitor, made: &[u8; 128], s: u8, t: u8, need: u16) -> Result<(), Refusal>
     requires reads { LateReads made.now s t m.old }
     requires need { NeedOf m.old.plant t need }
     ensures { LateDone m.old s t (answer_of result) m.new }
 {
-    let row = choose_row(&m.plant, &m.levels, made, usize::from(s), usize::from(t), need)?;
+    let row = choose_row(
+        &m.plant,
+        &m.levels,
+        made,
+        usize::from(s),
+        usize::from(t),
+        need,
+    )?;
     m.running[usize::from(s)] = t;
     put_row(&mut m.chosen, usize::from(s), &row);
     Ok(())

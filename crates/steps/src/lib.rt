@@ -14,14 +14,7 @@ use plant::Plant;
 use refusal::Refusal;
 
 // Set: 21 to 24, or the level is stored.
-pub fn set_at(
-    p: &Plant,
-    levels: &mut [u8; 1024],
-    s: u8,
-    t: u8,
-    d: u8,
-    v: u8,
-) -> Result<(), Refusal>
+pub fn set_at(p: &Plant, levels: &mut [u8; 1024], s: u8, t: u8, d: u8, v: u8) -> Result<(), Refusal>
     requires { (m : Monitor) × SetReads p.now levels.old m }
     ensures { (m : Monitor) → SetReads p.now levels.old m
         → Does m (set s t d v) (answer_of result) (with_levels m levels.new) }

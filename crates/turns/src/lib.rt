@@ -39,7 +39,8 @@ fn stop_kept(m: &mut Monitor, kept: &mut Kept, s: u8) -> Result<(), Refusal>
     Ok(())
 }
 
-// One request of a list.
+// One request of a list. The arms are those of a request by itself (crate single), over what a list keeps: a trait for the three that differ would be
+// longer than they are.
 pub fn turn(m: &mut Monitor, kept: &mut Kept, r: Request) -> u8
     requires passes_test_20 { intact m.old.plant m.old ≡ true }
     requires keeps { Keeps m.old kept.old }
@@ -47,12 +48,14 @@ pub fn turn(m: &mut Monitor, kept: &mut Kept, r: Request) -> u8
     ensures keeps { Keeps m.new kept.new }
 {
     match Call::try_from(r) {
-        Ok(Call::Set {
-            skid,
-            task,
-            requirement,
-            level,
-        }) => answer(set_at(&m.plant, &mut m.levels, skid, task, requirement, level)),
+        Ok(
+            Call::Set {
+                skid,
+                task,
+                requirement,
+                level,
+            },
+        ) => answer(set_at(&m.plant, &mut m.levels, skid, task, requirement, level)),
         Ok(Call::Start { skid, task }) => answer(start_kept(m, kept, skid, task)),
         Ok(Call::Stop { skid }) => answer(stop_kept(m, kept, skid)),
         Ok(Call::Gate { skid, tank, right }) => gate_answer(gate_granted(
