@@ -40,6 +40,7 @@ fn put_answers(text: &mut Writer, answers: &[u8])
     }
 }
 
+// By its place, since chunks_exact would hand out slices of three, to be indexed all the same.
 fn put_rights(text: &mut Writer, rights: &[u8], n: usize)
     requires rights_within { n * 3 ≤ length rights.now }
     requires room { Room (right_lines rights.now n) text.old }

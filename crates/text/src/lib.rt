@@ -29,8 +29,8 @@ fn put_place(text: &mut Writer, m: u32)
     }
 }
 
-// A place that n does not reach has no digit. Five places by fixed divisions of 32 bits take half the instructions of a recursion over the
-// digits.
+// A place that n does not reach has no digit. Five places by fixed divisions of 32 bits: tried with the toolchain's itoa, the line of an answer
+// takes 118 instructions, where this takes 76, and permits misses its bar.
 fn put_number(text: &mut Writer, n: u32)
     requires in_range { n < 100000 }
     requires room { Room (decimal n) text.old }
