@@ -6,25 +6,27 @@ ghost use Rattle.base.specs.Overlay.{overlay};
 ghost use Rattle.plant.specs.Checks.{plant_refusal};
 ghost use Rattle.rules.specs.Record.{fresh};
 ghost use Rattle.rules.specs.Run.{runs, ends};
-ghost use Rattle.calls.specs.RequestBytes.{request_at, calls_of};
+ghost use Rattle.calls.specs.Lent.{call_by};
+ghost use Rattle.calls.specs.RequestBytes.{call_at, calls_of};
 
 use calls::{Kept, Request};
 use plant::Plant;
 use rules::Monitor;
 use turns::turn;
 
-fn request_at(bytes: &[u8], i: usize) -> [u8; 5]
+// The five bytes of request i.
+fn request_at(bytes: &[u8], i: usize) -> Request
     requires { i * 5 + 5 ≤ length bytes.now }
-    ensures { result ≡ request_at bytes.now i }
+    ensures { call_by result.kind result.a result.b result.c result.d ≡ call_at bytes.now i }
 {
     let k = i * 5;
-    [
-        bytes[k],
-        bytes[k + 1],
-        bytes[k + 2],
-        bytes[k + 3],
-        bytes[k + 4],
-    ]
+    Request {
+        kind: bytes[k],
+        a: bytes[k + 1],
+        b: bytes[k + 2],
+        c: bytes[k + 3],
+        d: bytes[k + 4],
+    }
 }
 
 // The n answers, from the fresh monitor, and the record after the last request.
@@ -42,15 +44,7 @@ pub fn serve(p: Plant, bytes: &[u8], n: usize, out: &mut [u8]) -> Monitor
     };
     let mut kept = Kept::new();
     for i in 0..n {
-        let r = request_at(bytes, i);
-        let request = Request {
-            kind: r[0],
-            a: r[1],
-            b: r[2],
-            c: r[3],
-            d: r[4],
-        };
-        out[i] = turn(&mut m, &mut kept, request);
+        out[i] = turn(&mut m, &mut kept, request_at(bytes, i));
     }
     m
 }

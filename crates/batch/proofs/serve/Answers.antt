@@ -27,7 +27,7 @@ loop-i-preserved c =
     let p = c.args.p in
     let v = c.loop-i.invariant in
     let bytes = c.args.bytes.now in
-    let h = rw c.request_at-r.ensures at c.turn.ensures.does in
+    let h = rw c.request_at.ensures at c.turn.ensures.does in
     record {
       at_most = omega arith;
       size = simp length-set v.size;
