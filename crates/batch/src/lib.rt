@@ -10,6 +10,7 @@ ghost use Rattle.calls.specs.Lent.{call_by};
 ghost use Rattle.calls.specs.RequestBytes.{call_at, calls_of};
 
 use calls::{Kept, Request};
+use fresh::fresh_monitor;
 use plant::Plant;
 use rules::Monitor;
 use turns::turn;
@@ -29,19 +30,14 @@ fn request_at(bytes: &[u8], i: usize) -> Request
     }
 }
 
-// The n answers, from the fresh monitor, and the record after the last request.
+// The n answers, from the fresh monitor, and the record after the last request. n is how many requests the bytes are; the caller has counted them.
 pub fn serve(p: Plant, bytes: &[u8], n: usize, out: &mut [u8]) -> Monitor
     requires plant_passes { plant_refusal true true p ≡ 0 }
     requires in_range { (n * 5 ≤ length bytes.now) × (n ≤ length out.old) }
     ensures record_after { result ≡ ends (fresh p) (calls_of bytes.now n) }
     ensures answers { out.new ≡ overlay out.old 0 (runs (fresh p) (calls_of bytes.now n)) }
 {
-    let mut m = Monitor {
-        plant: p,
-        levels: [255u8; 1024],
-        running: [255u8; 8],
-        chosen: [255u8; 64],
-    };
+    let mut m = fresh_monitor(p);
     let mut kept = Kept::new();
     for i in 0..n {
         out[i] = turn(&mut m, &mut kept, request_at(bytes, i));

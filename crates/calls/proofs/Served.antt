@@ -6,7 +6,7 @@ use native.Mathlib.Omega.{arith}
 use mathlib.Core.Bool.{true}
 use mathlib.Core.List.{List, [], ◌∷◌, ◌++◌}
 use native.Mathlib.Decide.{ℕ_discrete}
-use lib.ListN.{length, set, get_or, length-append, replicate, get_or-append}
+use lib.ListN.{length, set, get_or, length-append, get_or-append}
 use lib.Seq.{get_or-append_seam}
 use Rattle.base.specs.Overlay.{overlay}
 use Rattle.base.proofs.Overlaid.{overlay_none, overlay_more}
@@ -15,7 +15,7 @@ use Rattle.plant.specs.Checks.{plant_refusal, Sound}
 use Rattle.plant.proofs.Sound.{sound_law}
 use Rattle.rules.specs.declared.Monitor.{Monitor}
 use Rattle.rules.specs.Rules.{Call, answer}
-use Rattle.rules.specs.Record.{fresh, view_of, intact, stepped, record_of}
+use Rattle.rules.specs.Record.{fresh, view_of, intact, stepped}
 use Rattle.rules.specs.Run.{runs, ends, TestedOnce}
 use Rattle.rules.proofs.Agree.{fresh_agree, intact_true}
 use Rattle.rules.proofs.IntactKept.{tested_once}
@@ -98,13 +98,9 @@ pub record Serving (P : Plant) (bytes : List ℕ) (n : ℕ) (out₀ : List ℕ) 
   pub keeps : Keeps m kept
 
 -- before the first request
-pub first_record : (P : Plant) (bytes : List ℕ) → record_of P (replicate 1024 255) (replicate 8 255) (replicate 64 255) ≡ ends (fresh P) (calls_of bytes 0)
-unfolding ends calls_of fresh
+pub first_record : (P : Plant) (bytes : List ℕ) → fresh P ≡ ends (fresh P) (calls_of bytes 0)
+unfolding ends calls_of
 first_record P bytes = refl
-
-pub first_kept : (P : Plant) {kept : Kept} → ((Q : Plant) → Q.skids ≤ 8 → Keeps (fresh Q) kept) → P.skids ≤ 8 → Keeps (record_of P (replicate 1024 255) (replicate 8 255) (replicate 64 255)) kept
-unfolding fresh
-first_kept P k l = k P l
 
 pub first_out : (P : Plant) (bytes out : List ℕ) → out ≡ overlay out 0 (runs (fresh P) (calls_of bytes 0))
 unfolding runs calls_of

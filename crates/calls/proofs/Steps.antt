@@ -1,14 +1,13 @@
 -- The work of set, stop and gate does what the rules say, on every record that has the parts lent to it. Assumes nothing.
 use mathlib.Core.Path.{◌≡◌, refl, sym, ap, subst, ◌∙◌}
-use mathlib.Core.Logic.{◌≢◌}
-use Prim.Native.Nat.{ℕ, ◌*◌, ◌≤◌, ◌<◌}
+use Prim.Native.Nat.{ℕ, ◌*◌, ◌<◌}
 use native.Mathlib.Omega.{arith}
-use mathlib.Core.Bool.{Bool, true, false, cond, not, ◌&&◌}
+use mathlib.Core.Bool.{Bool, true, false, cond, not}
 use mathlib.Core.List.{List, [], ◌∷◌}
-use lib.Dec.{eqb, ltb, leb}
+use lib.Dec.{eqb, leb}
 use lib.ListN.{get_or, replicate, get_or-replicate}
 use lib.ListN as ListN
-use borrow.Author.Tests.{leb-false, eqb-true, eqb-false, ne_eqb, not-true, not-false}
+use borrow.Author.Tests.{leb-false, eqb-true}
 use Rattle.base.specs.Chain.{Test, ◌gives◌, first}
 use Rattle.base.proofs.Chain.{clear, first_append}
 use Rattle.base.proofs.Logic.{split}
@@ -16,7 +15,7 @@ use Rattle.base.proofs.Below.{all_at}
 use Rattle.plant.specs.declared.Plant.{Plant}
 use Rattle.plant.specs.Plant.{levels_of}
 use Rattle.plant.specs.Valid.{Valid}
-use Rattle.plant.specs.Right.{rights, valid_right}
+use Rattle.plant.specs.Right.{valid_right}
 use Rattle.choice.specs.Choice.{unset}
 use Rattle.rules.specs.declared.Monitor.{Monitor}
 use Rattle.rules.specs.Rules.{Call, set, start, stop, gate, unknown, skid_of, View, holds, conditions, refusal, accepted_answer, answer}

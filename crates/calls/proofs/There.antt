@@ -1,13 +1,11 @@
 -- A right that is not there. Assumes nothing.
-use mathlib.Core.Path.{◌≡◌, refl, sym, ap, ◌∙◌}
+use mathlib.Core.Path.{◌≡◌, sym, ap, ◌∙◌}
 use Prim.Native.Nat.{ℕ}
-use mathlib.Core.Bool.{Bool, true, false, cond, not, ◌||◌}
-use mathlib.Core.List.{List, ◌∷◌}
-use lib.Dec.{eqb, leb}
+use mathlib.Core.Bool.{Bool, not}
+use lib.Dec.{leb}
 use borrow.Author.Tests.{leb-true, leb-false, lt-leb, le-leb}
 use native.Mathlib.Omega.{arith}
-use Rattle.base.specs.Chain.{Test, ◌gives◌, first}
-use Rattle.base.proofs.Logic.{split, true_false}
+use Rattle.base.proofs.Logic.{split}
 use Rattle.plant.specs.Right.{rights, valid_right}
 
 -- what is no right

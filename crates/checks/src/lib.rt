@@ -1,4 +1,6 @@
 // Opening's checks 3 and 7 to 12 of a plant record, in their order.
+// That the counts are within the record (`Fits`) is a clause of each step: a struct round the plant with that fact would stand before each part of the
+// plant in every other clause, and be no plainer.
 #![tactic(auto)]
 
 ghost use Rattle.std.specs.Prelude.{◌≡◌};

@@ -1,4 +1,5 @@
 // The row of tanks that a start chooses: the groups that its task needs, and the tank for each.
+// The bound of an index is a clause and no type: a type would be made of a number at each call and taken apart at each array.
 #![tactic(auto)]
 
 ghost use Rattle.std.specs.Prelude.{◌≡◌, true, ◌<◌, ◌≤◌};

@@ -1,4 +1,5 @@
 // The work of a gate on the parts of a record that are lent to it: by the record, or in a list by the rights granted.
+// The bound of an index is a clause and no type: a type would be made of a number at each call and taken apart at each array.
 #![tactic(auto)]
 
 ghost use Rattle.std.specs.Prelude.{◌≡◌, true, ℕ, ◌<◌, get_or};

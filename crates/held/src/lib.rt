@@ -1,4 +1,5 @@
 // The writer of the list of rights held: how many there are, and then each as skid, tank, right, rising in that order.
+// `Known` is a clause of each step: a struct that holds the record with that fact would stand before each part of it in every other clause.
 #![tactic(auto)]
 
 ghost use Rattle.std.specs.Prelude.{◌≡◌, [], ◌∷◌, ◌/◌, ◌<◌, ◌≤◌, length};

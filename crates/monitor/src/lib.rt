@@ -6,8 +6,8 @@ ghost use Rattle.rules.specs.Rules.{set, start, stop, gate};
 ghost use Rattle.requests.specs.Calls.{step_of};
 ghost use Rattle.requests.specs.Requests.{call_of};
 
-use intact::is_intact;
 use calls::{Call, Request};
+use intact::is_intact;
 use refusal::Refusal;
 use requests::Answered;
 use rules::Monitor;

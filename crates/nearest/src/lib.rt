@@ -1,4 +1,5 @@
 // The levels for which a tank is nearest, as sets.
+// The bound of an index is a clause and no type: a type would be made of a number at each call and taken apart at each array.
 #![tactic(auto)]
 
 ghost use Rattle.std.specs.Prelude.{◌≡◌, not, ◌&&◌, ℕ, ◌<◌, get_or};

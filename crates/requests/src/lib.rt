@@ -3,7 +3,7 @@
 
 use rules::Monitor;
 
-// The answer to a call, and the monitor after it.
+// The answer to a call, and the monitor after it, which is there whatever the answer. The answer is 01's number, as C and the answer bytes have it.
 #[repr(C)]
 #[derive(Clone, Copy)]
 pub struct Answered {

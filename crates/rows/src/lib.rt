@@ -1,4 +1,5 @@
 // The levels of a lattice in order, and a row of their table of joins: the join of one level with each level, found by the sets of the levels.
+// The bound of an index is a clause and no type: a type would be made of a number at each call and taken apart at each array.
 #![tactic(auto)]
 
 ghost use Rattle.std.specs.Prelude.{◌≡◌, get_or, ℕ, ◌^◌, true, cond, eqb, ◌<◌, ◌≤◌};

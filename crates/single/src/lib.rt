@@ -1,4 +1,5 @@
 // One request by itself, on a record that has passed test 20. It keeps nothing: a set, a stop and a gate make nothing that they do not read.
+// That a record passes test 20 is a clause and no type: C holds records that do not pass, and each step would take the type apart.
 #![tactic(auto)]
 
 ghost use Rattle.std.specs.Prelude.{◌≡◌, true};

@@ -1,4 +1,5 @@
 // The work of set and stop on the parts of a record that are lent to it, and a skid's row of choices or of rights granted.
+// The bound of an index is a clause and no type: a type would be made of a number at each call and taken apart at each array.
 #![tactic(auto)]
 
 ghost use Rattle.std.specs.Prelude.{◌≡◌, ◌*◌, ◌<◌, length};

@@ -1,4 +1,6 @@
 // The stored levels of a monitor's record: whether each is unset or one of its lattice.
+// That the counts are within the record (`Fits`) is a clause of each step: a struct round the plant with that fact would stand before each part of the
+// plant in every other clause, and be no plainer.
 #![tactic(auto)]
 
 ghost use Rattle.std.specs.Prelude.{◌≡◌, ℕ, true, ◌<◌};

@@ -1,4 +1,6 @@
 // Check 10 on the tasks and skids of a plant: no requirement, right or task past its count.
+// That the counts are within the record (`Fits`) is a clause of each step: a struct round the plant with that fact would stand before each part of the
+// plant in every other clause, and be no plainer.
 #![tactic(auto)]
 
 ghost use Rattle.std.specs.Prelude.{◌≡◌, ◌<◌, ◌≤◌};

@@ -3,7 +3,7 @@ use Rattle.std.proofs.Common.{◌≡◌, refl, arith}
 use Rattle.std.proofs.Math.ListN.{length-set}
 use Rattle.plant.proofs.Sound.{sound_law}
 use Rattle.plant.proofs.Valid.{valid}
-use Rattle.calls.proofs.Served.{still_intact, next_record, next_out, first_record, first_out, first_kept}
+use Rattle.calls.proofs.Served.{still_intact, next_record, next_out, first_record, first_out}
 use Rattle.batch.proofs.serve.Goals as goal
 
 pub loop-i-init : goal.loop-i-init
@@ -12,9 +12,9 @@ loop-i-init c =
     record {
       at_most = omega arith;
       size = refl;
-      state = first_record p c.args.bytes.now;
+      state = rw c.fresh_monitor-m.ensures (first_record p c.args.bytes.now);
       answers = first_out p c.args.bytes.now c.args.out.now;
-      keeps = first_kept p c.new-kept.ensures (valid p ((sound_law p).0 c.requires.plant_passes)).counts.skids_fit;
+      keeps = rw c.fresh_monitor-m.ensures (c.new-kept.ensures p (valid p ((sound_law p).0 c.requires.plant_passes)).counts.skids_fit);
     }
 
 pub turn-requires : goal.turn-requires
