@@ -6,24 +6,27 @@ ghost use Rattle.base.specs.Overlay.{overlay};
 ghost use Rattle.plant.specs.Checks.{plant_refusal};
 ghost use Rattle.rules.specs.Record.{fresh};
 ghost use Rattle.rules.specs.Run.{runs, ends};
-ghost use Rattle.calls.specs.RequestBytes.{request_at, calls_of};
+ghost use Rattle.calls.specs.Lent.{call_by};
+ghost use Rattle.calls.specs.RequestBytes.{call_at, calls_of};
 
+use calls::{Kept, Request};
 use plant::Plant;
 use rules::Monitor;
 use turns::turn;
 
-fn request_at(bytes: &[u8], i: usize) -> [u8; 5]
+// The five bytes of request i.
+fn request_at(bytes: &[u8], i: usize) -> Request
     requires { i * 5 + 5 ≤ length bytes.now }
-    ensures { result ≡ request_at bytes.now i }
+    ensures { call_by result.kind result.a result.b result.c result.d ≡ call_at bytes.now i }
 {
     let k = i * 5;
-    [
-        bytes[k],
-        bytes[k + 1],
-        bytes[k + 2],
-        bytes[k + 3],
-        bytes[k + 4],
-    ]
+    Request {
+        kind: bytes[k],
+        a: bytes[k + 1],
+        b: bytes[k + 2],
+        c: bytes[k + 3],
+        d: bytes[k + 4],
+    }
 }
 
 // The n answers, from the fresh monitor, and the record after the last request.
@@ -39,25 +42,9 @@ pub fn serve(p: Plant, bytes: &[u8], n: usize, out: &mut [u8]) -> Monitor
         running: [255u8; 8],
         chosen: [255u8; 64],
     };
-    let mut made = [254u8; 128];
-    let mut needs = [0u16; 16];
-    let mut granted = [0u8; 64];
+    let mut kept = Kept::new();
     for i in 0..n {
-        let r = request_at(bytes, i);
-        out[i] = turn(
-            &m.plant,
-            &mut m.levels,
-            &mut m.running,
-            &mut m.chosen,
-            &mut made,
-            &mut needs,
-            &mut granted,
-            r[0],
-            r[1],
-            r[2],
-            r[3],
-            r[4],
-        );
+        out[i] = turn(&mut m, &mut kept, request_at(bytes, i));
     }
     m
 }

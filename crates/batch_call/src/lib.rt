@@ -22,15 +22,7 @@ fn write_outcome(p: Plant, requests: &[u8], n: usize, out: &mut [u8])
     ensures { out.new ≡ overlay out.old 0 (outcome p (calls_of requests.now n)) }
 {
     let m = serve(p, requests, n, out);
-    write_held(
-        &m.plant.tank_group,
-        &m.plant.task_rights,
-        &m.running,
-        &m.chosen,
-        m.plant.skids,
-        m.plant.tanks,
-        &mut out[n..],
-    );
+    write_held(&m, &mut out[n..]);
 }
 
 // How many requests there are: 34 for request bytes that are no multiple of five, then 31 for a buffer under n + 577 bytes.

@@ -27,7 +27,7 @@ use Rattle.refusal.specs.Number.{answer_of}
 use Rattle.rules.specs.declared.Monitor.{Monitor}
 use Rattle.rules.specs.Rules.{blank_at, blank, lacking, conditions, pick_for}
 use Rattle.calls.specs.Work.{level_known, made_at, wish_in, found_in, blank_in, lacking_in, pick_in, NeedOf, Reached, RowDone, get_row}
-use Rattle.calls.specs.Start.{WishReads, SearchReads, LateReads, Looked, NeedsAt, wish_of, stored_wish, late_tests}
+use Rattle.calls.specs.Start.{Startable, SearchReads, LateReads, Looked, NeedsAt, wish_of, stored_wish, late_tests}
 use Rattle.calls.proofs.Made.{reached, over_groups, needed_there}
 use Rattle.calls.proofs.Known.{known}
 use Rattle.calls.proofs.Ready.{plant_valid, level_there}
@@ -50,7 +50,7 @@ pub record RowChosen (m : Monitor) (s t : ℕ) (outcome : Result (List ℕ) Refu
   pub chooses : IfOk outcome (λ row. (g : ℕ) → g < 8 → get_row row g ≡ pick_for m.plant t (wish_of m s t) g)
 
 -- what is looked up is there, and the level that is stored is the wish
-module _ {requirement levels : List ℕ} {s t : ℕ} {m : Monitor} (W : WishReads requirement levels s t m) where
+module _ {s t : ℕ} {m : Monitor} (W : Startable s t m) where
   pub skid_fits : s < 8
   skid_fits = omega (arith, W.skid, (plant_valid m W.passes).counts.skids_fit)
 
@@ -61,28 +61,22 @@ module _ {requirement levels : List ℕ} {s t : ℕ} {m : Monitor} (W : WishRead
     pub group_fits : g < 8
     group_fits = omega (arith, (plant_valid m W.passes).counts.groups_fit)
 
-    requirement_in : get_or requirement g 0 < m.plant.requirements
-    requirement_in = rw (← W.requirement_is) ((plant_valid m W.passes).req_in g l)
-
-    pub requirement_fits : get_or requirement g 0 < 8
-    requirement_fits = omega (arith, requirement_in, (plant_valid m W.passes).counts.requirements_fit)
-
     abbrev pub stored : ℕ
-    stored = wish_in requirement levels s t g
+    stored = wish_in m.plant.group_requirement m.levels s t g
 
     pub is_wish : stored ≡ wish_of m s t (requirement_of m.plant g)
-    is_wish = rw (← W.requirement_is, ← W.levels_are) (sym (level_is m W.passes s t g W.skid W.task l))
+    is_wish = (sym (level_is m W.passes s t g W.skid W.task l))
 
-    pub stored_known : level_known levels s t (get_or requirement g 0) ≡ true
-    stored_known = rw (← W.requirement_is, ← W.levels_are) (level_there m W.passes s t (requirement_of m.plant g) W.skid W.task ((plant_valid m W.passes).req_in g l))
+    pub stored_known : level_known m.levels s t (requirement_of m.plant g) ≡ true
+    stored_known = (level_there m W.passes s t (requirement_of m.plant g) W.skid W.task ((plant_valid m W.passes).req_in g l))
 
     pub level_fits : stored ≢ 255 → stored < 16
     level_fits = known stored 16 stored_known
 
   -- the groups of the set of those that the task needs
   module _ (need : ℕ) (n : NeedOf m.plant t need) where
-    pub all_reached : Reached requirement levels s t need
-    all_reached = rw (← W.requirement_is, ← W.levels_are) (reached m W.passes s t need W.skid W.task n)
+    pub all_reached : Reached m.plant.group_requirement m.levels s t need
+    all_reached = (reached m W.passes s t need W.skid W.task n)
 
   -- what the tanks of the groups are searched in
   pub search_reads : SearchReads m.plant m.levels s t
@@ -98,39 +92,37 @@ pub table_looked : {P : Plant} {levels : List ℕ} {s t : ℕ} → SearchReads P
 table_looked {P} {levels} {s} {t} R c g l n = table_choice P c g (stored_wish levels s t) l.0 (known (stored_wish levels s t (requirement_of P g)) 16 (R.levels_known g l.0) n)
 
 -- What the row of a start is in the rules' words, where `need` is the set of the task's groups.
-module _ {requirement levels made : List ℕ} {s t : ℕ} {m : Monitor} (R : LateReads requirement levels made s t m) (need : ℕ) (n : NeedOf m.plant t need) where
+module _ {made : List ℕ} {s t : ℕ} {m : Monitor} (R : LateReads made s t m) (need : ℕ) (n : NeedOf m.plant t need) where
   abbrev P : Plant
   P = m.plant
 
   X : Valid P
-  X = plant_valid m R.wishes.passes
+  X = plant_valid m R.startable.passes
 
   abbrev found : ℕ → ℕ
-  found = found_in (made_at made) requirement levels s t
+  found = found_in (made_at made) m.plant.group_requirement m.levels s t
 
   there : (g : ℕ) → bit need g ≡ true → NeedsAt P t g
   there = needed_there P t need n
 
   -- a test of the groups of the set, and one of the groups that the task needs
   over_needed : (p : ℕ → Bool) → any_below (λ g. bit need g && p g) 8 ≡ any_below (λ g. needs P t g && p g) P.groups
-  over_needed p = let W = R.wishes in over_groups m W.passes s t need W.skid W.task n p (λ g. needs P t g && p g) (λ g l. refl)
+  over_needed p = let W = R.startable in over_groups m W.passes s t need W.skid W.task n p (λ g. needs P t g && p g) (λ g l. refl)
 
-  same_unset : any_below (blank_in requirement levels s t (bit need)) 8 ≡ any_below (λ g. needs P t g && level_unset m s t g) P.groups
+  same_unset : any_below (blank_in m.plant.group_requirement m.levels s t (bit need)) 8 ≡ any_below (λ g. needs P t g && level_unset m s t g) P.groups
   same_unset =
-      any_same 8 (blank_in requirement levels s t (bit need)) (λ g. bit need g && level_unset m s t g)
-      (λ g l. split (bit need g) (λ b. rw (b, is_wish R.wishes g (there g b).0)) (λ b. rw b))
+      any_same 8 (blank_in m.plant.group_requirement m.levels s t (bit need)) (λ g. bit need g && level_unset m s t g)
+      (λ g l. split (bit need g) (λ b. rw (b, is_wish R.startable g (there g b).0)) (λ b. rw b))
       ∙ over_needed (level_unset m s t)
 
   -- no level of the set is unset: the table has the choices
-  module _ (z : any_below (blank_in requirement levels s t (bit need)) 8 ≡ false) where
+  module _ (z : any_below (blank_in m.plant.group_requirement m.levels s t (bit need)) 8 ≡ false) where
     same_found : (g : ℕ) → bit need g ≡ true → found g ≡ tank_for m s t g
     same_found g b =
         let l = there g b in
-        let w = is_wish R.wishes g l.0 in
-        let u : eqb (wish_in requirement levels s t g) 255 ≡ false = rw b at (any_no 8 (blank_in requirement levels s t (bit need)) z g (group_fits R.wishes g l.0)) in
-        let k : wish_in requirement levels s t g ≡ stored_wish m.levels s t (requirement_of P g) = rw (R.wishes.requirement_is, R.wishes.levels_are) in
-        ap (λ (v : ℕ). get_or made (g * 16 + v) 0) k ∙ R.table g l (λ e. eqb-false (wish_in requirement levels s t g) 255 u (k ∙ e))
-        ∙ choice_same P g (stored_wish m.levels s t) (wish_of m s t) (sym k ∙ w)
+        let w = is_wish R.startable g l.0 in
+        let u : eqb (wish_in m.plant.group_requirement m.levels s t g) 255 ≡ false = rw b at (any_no 8 (blank_in m.plant.group_requirement m.levels s t (bit need)) z g (group_fits R.startable g l.0)) in
+        R.table g l (eqb-false (wish_in m.plant.group_requirement m.levels s t g) 255 u) ∙ choice_same P g (stored_wish m.levels s t) (wish_of m s t) w
 
     -- a group that is served has a tank, and 255 stands for none
     none_served : (g : ℕ) → g < P.groups → eqb (tank_for m s t g) 255 ≡ no_tank m s t g
@@ -138,33 +130,33 @@ module _ {requirement levels made : List ℕ} {s t : ℕ} {m : Monitor} (R : Lat
         (λ y. rw y (ne_eqb (tank_for m s t g) 255 (λ e. omega (arith, e, (choice_is P X g l (wish_of m s t) y).is_nearest.is_tank, X.counts.tanks_fit))))
         (λ y. rw y (eq-eqb (tank_for m s t g) 255 (choice_none P X g l (wish_of m s t) y)))
 
-    same_lacking : any_below (lacking_in (made_at made) requirement levels s t (bit need)) 8 ≡ any_below (λ g. needs P t g && no_tank m s t g) P.groups
+    same_lacking : any_below (lacking_in (made_at made) m.plant.group_requirement m.levels s t (bit need)) 8 ≡ any_below (λ g. needs P t g && no_tank m s t g) P.groups
     same_lacking =
-        any_same 8 (lacking_in (made_at made) requirement levels s t (bit need)) (λ g. bit need g && no_tank m s t g)
+        any_same 8 (lacking_in (made_at made) m.plant.group_requirement m.levels s t (bit need)) (λ g. bit need g && no_tank m s t g)
         (λ g l. split (bit need g) (λ b. rw (b, same_found g b) (none_served g (there g b).0)) (λ b. rw b))
         ∙ over_needed (no_tank m s t)
 
     same_pick : (g : ℕ) → cond (bit need g) (found g) 255 ≡ cond (bit need g) (tank_for m s t g) 255
     same_pick g = split (bit need g) (λ b. rw (b, same_found g b)) (λ b. rw b)
 
-  module _ {outcome : Result (List ℕ) Refusal} (d : RowDone (made_at made) requirement levels s t (bit need) 8 outcome) where
+  module _ {outcome : Result (List ℕ) Refusal} (d : RowDone (made_at made) m.plant.group_requirement m.levels s t (bit need) 8 outcome) where
     number_is : answer_of outcome ≡ first (late_tests m s t)
     unfolding conditions blank blank_at lacking
-    number_is = split (any_below (blank_in requirement levels s t (bit need)) 8)
+    number_is = split (any_below (blank_in m.plant.group_requirement m.levels s t (bit need)) 8)
         (λ z. (rw z at d.answers) ∙ sym (rw (sym same_unset ∙ z)))
         (λ z. d.answers ∙ rw (same_unset, same_lacking z))
 
     -- none is unset where none is refused
-    all_set : answer_of outcome ≡ 0 → any_below (blank_in requirement levels s t (bit need)) 8 ≡ false
-    all_set e = split (any_below (blank_in requirement levels s t (bit need)) 8) (λ z. absurd (omega (arith, e, rw z at d.answers))) (λ z. z)
+    all_set : answer_of outcome ≡ 0 → any_below (blank_in m.plant.group_requirement m.levels s t (bit need)) 8 ≡ false
+    all_set e = split (any_below (blank_in m.plant.group_requirement m.levels s t (bit need)) 8) (λ z. absurd (omega (arith, e, rw z at d.answers))) (λ z. z)
 
-  pub row_chosen : (outcome : Result (List ℕ) Refusal) → RowDone (made_at made) requirement levels s t (bit need) 8 outcome → RowChosen m s t outcome
+  pub row_chosen : (outcome : Result (List ℕ) Refusal) → RowDone (made_at made) m.plant.group_requirement m.levels s t (bit need) 8 outcome → RowChosen m s t outcome
   unfolding pick_for
   row_chosen (Err r) d = record { answers = number_is d; chooses = tt }
   row_chosen (Ok row) d = record {
     answers = number_is d;
     chooses = λ g l.
         ap (λ (r : List ℕ). get_row r g) d.chooses
-        ∙ fill_at (pick_in (made_at made) requirement levels s t (bit need)) (replicate 8 255) 8 g 0 (omega (arith, length-replicate {A = ℕ} 8 255)) l
+        ∙ fill_at (pick_in (made_at made) m.plant.group_requirement m.levels s t (bit need)) (replicate 8 255) 8 g 0 (omega (arith, length-replicate {A = ℕ} 8 255)) l
         ∙ same_pick (all_set d refl) g ∙ rw (n g);
   }

@@ -19,8 +19,8 @@ use Rattle.rules.specs.Record.{fresh, view_of, intact, stepped, record_of}
 use Rattle.rules.specs.Run.{runs, ends, TestedOnce}
 use Rattle.rules.proofs.Agree.{fresh_agree, intact_true}
 use Rattle.rules.proofs.IntactKept.{tested_once}
-use Rattle.calls.specs.Lent.{Tables}
-use Rattle.calls.specs.Work.{Granted}
+use Rattle.calls.specs.declared.Kept.{Kept}
+use Rattle.calls.specs.Lent.{Keeps}
 use Rattle.calls.specs.RequestBytes.{call_at, calls_of}
 
 -- one call more at the end of a list
@@ -90,18 +90,21 @@ module _ (P : Plant) (q : plant_refusal true true P ≡ 0) where
         ∙ ap (overlay out₀ 0) (sym (ap (runs (fresh P)) (calls_more bytes i) ∙ runs_more (calls_of bytes i) (fresh P) (call_at bytes i)))
 
 -- what the loop knows before request i: the record and the answers so far are the run's, and what is kept beside the record is kept
-pub record Serving (P : Plant) (bytes : List ℕ) (n : ℕ) (out₀ : List ℕ) (out : List ℕ) (m : Monitor) (made needs granted : List ℕ) (i : ℕ) : Type 0 where
+pub record Serving (P : Plant) (bytes : List ℕ) (n : ℕ) (out₀ : List ℕ) (out : List ℕ) (m : Monitor) (kept : Kept) (i : ℕ) : Type 0 where
   pub at_most : i ≤ n
   pub size : length out ≡ length out₀
   pub state : m ≡ ends (fresh P) (calls_of bytes i)
   pub answers : out ≡ overlay out₀ 0 (runs (fresh P) (calls_of bytes i))
-  pub tables : Tables m.plant made needs
-  pub grants : Granted m.plant.task_rights m.running m.plant.skids granted
+  pub keeps : Keeps m kept
 
 -- before the first request
 pub first_record : (P : Plant) (bytes : List ℕ) → record_of P (replicate 1024 255) (replicate 8 255) (replicate 64 255) ≡ ends (fresh P) (calls_of bytes 0)
 unfolding ends calls_of fresh
 first_record P bytes = refl
+
+pub first_kept : (P : Plant) {kept : Kept} → ((Q : Plant) → Q.skids ≤ 8 → Keeps (fresh Q) kept) → P.skids ≤ 8 → Keeps (record_of P (replicate 1024 255) (replicate 8 255) (replicate 64 255)) kept
+unfolding fresh
+first_kept P k l = k P l
 
 pub first_out : (P : Plant) (bytes out : List ℕ) → out ≡ overlay out 0 (runs (fresh P) (calls_of bytes 0))
 unfolding runs calls_of

@@ -1,4 +1,4 @@
--- The rest of a start, behind 21 to 26: what it answers and stores is what the rules say, on every record that has the parts lent to it. Assumes
+-- The rest of a start, behind 21 to 26: what it answers and stores is what the rules say. Assumes
 -- nothing.
 use mathlib.Core.Path.{◌≡◌, refl, sym, ap, ◌∙◌}
 use Prim.Native.Nat.{ℕ, ◌*◌}
@@ -17,7 +17,7 @@ use Rattle.rules.specs.Rules.{start, conditions, refusal, accepted_answer, pick_
 use Rattle.rules.specs.Record.{view_of, fill_from, changed, intact, with_task}
 use Rattle.calls.specs.Work.{early_tests, get_row}
 use Rattle.calls.specs.Lent.{Does}
-use Rattle.calls.specs.Start.{late_tests, wish_of, StoreReads, LateDone}
+use Rattle.calls.specs.Start.{late_tests, wish_of, LateDone}
 use Rattle.calls.proofs.Rows.{row_same}
 use Rattle.calls.proofs.Views.{running_is}
 use Rattle.calls.proofs.Late.{RowChosen}
@@ -50,16 +50,16 @@ module _ (m : Monitor) (i : intact m.plant m ≡ true) (s t : ℕ) where
   done_late e z d = does m (start s t) refl (d.answers ∙ (rw (← e, z) at number_is)) d.leaves
 
 -- the late conditions and the storing
-module _ {requirement levels made running chosen : List ℕ} {s t : ℕ} {m : Monitor} (R : StoreReads requirement levels made running chosen s t m) where
-  pub late_refused : {n : ℕ} → n ≡ first (late_tests m s t) → eqb n 0 ≡ false → LateDone m s t n (with_task m running chosen)
-  late_refused {n} e z = record { answers = e; leaves = rw (z, ← R.running_is, ← R.chosen_is) }
+module _ {m : Monitor} {s t : ℕ} where
+  pub late_refused : {n : ℕ} → n ≡ first (late_tests m s t) → eqb n 0 ≡ false → LateDone m s t n m
+  late_refused e z = record { answers = e; leaves = rw z }
 
-  pub late_accepted : {row running' chosen' : List ℕ} → RowChosen m s t (Ok row) → running' ≡ ListN.set running s t → chosen' ≡ fill_from chosen (s * 8) (get_row row) 8
-      → LateDone m s t 0 (with_task m running' chosen')
+  pub late_accepted : {row running chosen : List ℕ} → RowChosen m s t (Ok row) → running ≡ ListN.set m.running s t → chosen ≡ fill_from m.chosen (s * 8) (get_row row) 8
+      → LateDone m s t 0 (with_task m running chosen)
   unfolding changed
   late_accepted {row} d u w = record {
     answers = d.answers;
     leaves =
-        rw (u, w, ← R.running_is, ← R.chosen_is) (ap (λ (l : List ℕ). with_task m (ListN.set m.running s t) l)
+        rw (u, w) (ap (λ (l : List ℕ). with_task m (ListN.set m.running s t) l)
         (row_same m.chosen (s * 8) (get_row row) (pick_for m.plant t (wish_of m s t)) 8 d.chooses));
   }

@@ -6,12 +6,8 @@ use Rattle.rules.specs.declared.Monitor.{Monitor}
 use Rattle.rules.specs.Rules.{Call, answer}
 use Rattle.rules.specs.Rules as call
 use Rattle.rules.specs.Record.{view_of, intact, stepped}
-use Rattle.calls.specs.declared.PlantCounts.{PlantCounts}
+use Rattle.calls.specs.declared.Kept.{Kept}
 use Rattle.calls.specs.Work.{Needed, Granted}
-
--- the counts of a plant, as they go from function to function
-abbrev pub plant_counts : Plant → PlantCounts
-plant_counts P = record { lattices = P.lattices; requirements = P.requirements; groups = P.groups; tanks = P.tanks; tasks = P.tasks; skids = P.skids }
 
 -- A request: the kind and four bytes in the order of the call's arguments, unused ones ignored.
 abbrev pub call_by : ℕ → ℕ → ℕ → ℕ → ℕ → Call
@@ -27,35 +23,26 @@ pub record Does (m : Monitor) (c : Call) (number : ℕ) (left : Monitor) : Type 
   pub answers : number ≡ answer m.plant (view_of m.plant m) c
   pub leaves : left ≡ stepped m.plant m c
 
--- A record that passes test 20 and has these counts. A call to which a few parts are lent promises the same for every record that has them: it
--- reads no others.
-pub record Passed (n : PlantCounts) (m : Monitor) : Type 0 where
+-- A record that passes test 20 and has the plant that is lent. A call to which this and a few further parts are lent promises the same for every
+-- record that has them: it reads no others.
+pub record Passed (P : Plant) (m : Monitor) : Type 0 where
   pub passes : intact m.plant m ≡ true
-  pub counts : plant_counts m.plant ≡ n
+  pub plant_is : m.plant ≡ P
 
--- what a set, a stop and a gate read of it
-pub record SetReads (n : PlantCounts) (sizes lattice levels : List ℕ) (m : Monitor) : Type 0 where
-  pub passed : Passed n m
-  pub sizes_are : m.plant.lattice_sizes ≡ sizes
-  pub lattice_is : m.plant.requirement_lattice ≡ lattice
+-- what a set reads of it
+pub record SetReads (P : Plant) (levels : List ℕ) (m : Monitor) : Type 0 where
+  pub passed : Passed P m
   pub levels_are : m.levels ≡ levels
 
-pub record StopReads (n : PlantCounts) (running chosen : List ℕ) (m : Monitor) : Type 0 where
-  pub passed : Passed n m
-  pub running_is : m.running ≡ running
-  pub chosen_is : m.chosen ≡ chosen
-
-pub record GateReads (n : PlantCounts) (group rights running chosen : List ℕ) (m : Monitor) : Type 0 where
-  pub passed : Passed n m
-  pub group_is : m.plant.tank_group ≡ group
-  pub rights_are : m.plant.task_rights ≡ rights
+-- what a stop changes, and a gate reads
+pub record TaskReads (P : Plant) (running chosen : List ℕ) (m : Monitor) : Type 0 where
+  pub passed : Passed P m
   pub running_is : m.running ≡ running
   pub chosen_is : m.chosen ≡ chosen
 
 -- the same for a gate in a list, which reads the rights granted in place of the running task and its rights
-pub record GrantReads (n : PlantCounts) (group granted chosen : List ℕ) (m : Monitor) : Type 0 where
-  pub passed : Passed n m
-  pub group_is : m.plant.tank_group ≡ group
+pub record GrantReads (P : Plant) (granted chosen : List ℕ) (m : Monitor) : Type 0 where
+  pub passed : Passed P m
   pub chosen_is : m.chosen ≡ chosen
   pub grants : Granted m.plant.task_rights m.running m.plant.skids granted
 
@@ -64,3 +51,8 @@ pub record GrantReads (n : PlantCounts) (group granted chosen : List ℕ) (m : M
 pub record Tables (P : Plant) (made needs : List ℕ) : Type 0 where
   pub table : Tabled P made
   pub tasks : Needed P needs
+
+-- What a list keeps beside its record is right: the tables of the plant, and the rights of the tasks that run.
+pub record Keeps (m : Monitor) (kept : Kept) : Type 0 where
+  pub tables : Tables m.plant kept.made kept.needs
+  pub grants : Granted m.plant.task_rights m.running m.plant.skids kept.granted

@@ -44,25 +44,18 @@ abbrev pub EntryPut : Plant → List ℕ → ℕ → ℕ → ℕ → List ℕ �
 EntryPut P levels s t g made made' = made' ≡ cond (eqb (stored_wish levels s t (requirement_of P g)) unset) made
     (ListN.set made (g * 16 + stored_wish levels s t (requirement_of P g)) (choice P g (stored_wish levels s t)))
 
--- what the levels of a start are read of, for a skid and a task that are there
-pub record WishReads (requirement levels : List ℕ) (s t : ℕ) (m : Monitor) : Type 0 where
+-- a record that passes test 20, and a skid and a task that are there
+pub record Startable (s t : ℕ) (m : Monitor) : Type 0 where
   pub passes : intact m.plant m ≡ true
-  pub requirement_is : m.plant.group_requirement ≡ requirement
-  pub levels_are : m.levels ≡ levels
   pub skid : s < m.plant.skids
   pub task : t < m.plant.tasks
 
 -- what the late conditions read
-pub record LateReads (requirement levels made : List ℕ) (s t : ℕ) (m : Monitor) : Type 0 where
-  pub wishes : WishReads requirement levels s t m
+pub record LateReads (made : List ℕ) (s t : ℕ) (m : Monitor) : Type 0 where
+  pub startable : Startable s t m
   pub table : Looked m.plant m.levels s t made
 
--- what a start that is accepted stores its task and its tanks in, and what the late conditions and the storing do
-pub record StoreReads (requirement levels made running chosen : List ℕ) (s t : ℕ) (m : Monitor) : Type 0 where
-  pub reads : LateReads requirement levels made s t m
-  pub running_is : m.running ≡ running
-  pub chosen_is : m.chosen ≡ chosen
-
+-- what the late conditions and the storing do
 pub record LateDone (m : Monitor) (s t number : ℕ) (left : Monitor) : Type 0 where
   pub answers : number ≡ first (late_tests m s t)
   pub leaves : left ≡ cond (eqb number 0) (changed m.plant m (start s t)) m

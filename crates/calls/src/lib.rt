@@ -1,13 +1,162 @@
-// What the work of each call promises on the parts of a record that are lent to it, and the laws by which it keeps that: definitions and laws.
+// A call and the request that asks for it, what the work of each call promises on the parts of a record that are lent to it, and the laws by which it
+// keeps that.
 #![tactic(auto)]
 
-// The six counts of a plant, which go from function to function together.
+ghost use Rattle.std.specs.Prelude.{◌≡◌, ◌≤◌, map};
+ghost use Rattle.base.specs.Chain.{first};
+ghost use Rattle.plant.specs.declared.Plant.{Plant};
+ghost use Rattle.refusal.specs.Number.{answer_of};
+ghost use Rattle.rules.specs.Record.{fresh};
+ghost use Rattle.calls.specs.Lent.{Keeps};
+ghost use Rattle.calls.specs.Requests.{AsksFor, RequestFor, missing_item};
+
+use refusal::Refusal;
+
+// A request as a queue, a batch and C have it. Kind 0 is set, 1 start, 2 stop, 3 gate. The four bytes are the call's arguments in their order; those
+// that the call has no use for are ignored.
+#[repr(C)]
 #[derive(Clone, Copy)]
-pub struct PlantCounts {
-    pub lattices: u8,
-    pub requirements: u8,
-    pub groups: u8,
-    pub tanks: u8,
-    pub tasks: u8,
-    pub skids: u8,
+pub struct Request {
+    pub kind: u8,
+    pub a: u8,
+    pub b: u8,
+    pub c: u8,
+    pub d: u8,
+}
+
+#[derive(Clone, Copy, Debug, PartialEq, Eq)]
+pub enum Call {
+    Set {
+        skid: u8,
+        task: u8,
+        requirement: u8,
+        level: u8,
+    },
+    Start {
+        skid: u8,
+        task: u8,
+    },
+    Stop {
+        skid: u8,
+    },
+    Gate {
+        skid: u8,
+        tank: u8,
+        right: u8,
+    },
+}
+
+impl TryFrom<Request> for Call {
+    type Error = Refusal;
+
+    ghost try_from_gives = { AsksFor };
+
+    fn try_from(r: Request) -> Result<Self, Refusal> {
+        match r.kind {
+            0 => Ok(Call::Set {
+                skid: r.a,
+                task: r.b,
+                requirement: r.c,
+                level: r.d,
+            }),
+            1 => Ok(Call::Start {
+                skid: r.a,
+                task: r.b,
+            }),
+            2 => Ok(Call::Stop { skid: r.a }),
+            3 => Ok(Call::Gate {
+                skid: r.a,
+                tank: r.b,
+                right: r.c,
+            }),
+            _ => Err(Refusal::NoSuchKind),
+        }
+    }
+}
+
+impl From<Call> for Request {
+    ghost from_gives = { RequestFor };
+
+    fn from(call: Call) -> Request {
+        match call {
+            Call::Set {
+                skid,
+                task,
+                requirement,
+                level,
+            } => Request {
+                kind: 0,
+                a: skid,
+                b: task,
+                c: requirement,
+                d: level,
+            },
+            Call::Start { skid, task } => Request {
+                kind: 1,
+                a: skid,
+                b: task,
+                c: 0,
+                d: 0,
+            },
+            Call::Stop { skid } => Request {
+                kind: 2,
+                a: skid,
+                b: 0,
+                c: 0,
+                d: 0,
+            },
+            Call::Gate { skid, tank, right } => Request {
+                kind: 3,
+                a: skid,
+                b: tank,
+                c: right,
+                d: 0,
+            },
+        }
+    }
+}
+
+// What a list keeps beside its record, from one request to the next: the table of choices, the groups of each task, and the rights of the tasks that
+// run.
+#[derive(Clone, Copy)]
+pub struct Kept {
+    // 254 in its first entry until a start makes it.
+    pub made: [u8; 128],
+    // The empty set until a start of the task makes it.
+    pub needs: [u16; 16],
+    pub granted: [u8; 64],
+}
+
+impl Kept {
+    // Nothing is made, and nothing runs.
+    pub fn new() -> Kept
+        ensures { (P : Plant) → P.skids ≤ 8 → Keeps (fresh P) result }
+    {
+        Kept {
+            made: [254; 128],
+            needs: [0; 16],
+            granted: [0; 64],
+        }
+    }
+}
+
+// The refusal of the first of three items that is missing. The three are tested at once before, so that a call whose items are there asks once.
+pub fn check_items(missing: [(bool, Refusal); 3]) -> Result<(), Refusal>
+    ensures { answer_of result ≡ first (map missing_item missing) }
+{
+    let [
+        (first, first_refusal),
+        (second, second_refusal),
+        (third, third_refusal),
+    ] = missing;
+    if !(first | second | third) {
+        return Ok(());
+    }
+    if first {
+        return Err(first_refusal);
+    }
+    if second {
+        return Err(second_refusal);
+    }
+    Err(third_refusal)
 }

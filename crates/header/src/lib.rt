@@ -44,35 +44,6 @@ fn word_at(s: &[u8], i: usize) -> usize
     usize::from(s[i]) + usize::from(s[i + 1]) * 256
 }
 
-// How many records a section has, as the header has it, and as a number.
-pub fn count_byte(file: &[u8], section: Section) -> u8
-    requires { header_bytes ≤ length file.now }
-    ensures { result ≡ count file.now (section_number section) }
-{
-    file[COUNTS_AT + section as usize]
-}
-
-pub fn count_of(file: &[u8], section: Section) -> usize
-    requires { header_bytes ≤ length file.now }
-    ensures { (result ≡ count file.now (section_number section)) × (result < 256) }
-{
-    usize::from(count_byte(file, section))
-}
-
-pub fn offset_of(file: &[u8], section: Section) -> usize
-    requires { header_bytes ≤ length file.now }
-    ensures { (result ≡ offset file.now (section_number section)) × (result < 65536) }
-{
-    word_at(file, OFFSETS_AT + section as usize * 2)
-}
-
-pub fn end_of(file: &[u8], section: Section) -> usize
-    requires { header_bytes ≤ length file.now }
-    ensures { result ≡ end file.now (section_number section) }
-{
-    offset_of(file, section) + count_of(file, section) * width_of(section)
-}
-
 // How long the file says that it is.
 pub fn length_said(file: &[u8]) -> usize
     requires { header_bytes ≤ length file.now }
@@ -86,22 +57,7 @@ pub fn length_said(file: &[u8]) -> usize
 pub fn length_ok(file: &[u8]) -> bool
     ensures { result ≡ length_ok file.now }
 {
-    if file.len() < HEADER_BYTES {
-        return false;
-    }
-    if FILE_LIMIT < file.len() {
-        return false;
-    }
-    length_said(file) == file.len()
-}
-
-// 2: the edition.
-#[tactic(auto, unfolding(layout::specs::Header::edition_ok))]
-pub fn edition_ok(file: &[u8]) -> bool
-    requires { header_bytes ≤ length file.now }
-    ensures { result ≡ edition_ok file.now }
-{
-    file[0] == 1
+    HEADER_BYTES <= file.len() && file.len() <= FILE_LIMIT && length_said(file) == file.len()
 }
 
 // 3: the counts.
@@ -112,20 +68,63 @@ pub fn count_ok(section: Section, count: usize) -> bool
     1 <= count && count <= limit_of(section)
 }
 
-pub fn counts_ok(file: &[u8]) -> bool
-    requires { header_bytes ≤ length file.now }
-    ensures { result ≡ counts_ok file.now }
-{
-    Section::ALL
-        .iter()
-        .all(|section| count_ok(*section, count_of(file, *section)))
+// A file with a whole header.
+#[derive(Clone, Copy)]
+pub struct Header<'a> {
+    pub file: &'a [u8],
+    pub ghost whole: { header_bytes ≤ length file.now },
 }
 
-// 4: the header's zero bytes.
-#[tactic(auto, unfolding(layout::specs::Header::zeros_ok))]
-pub fn zeros_ok(file: &[u8]) -> bool
-    requires { header_bytes ≤ length file.now }
-    ensures { result ≡ zeros_ok file.now }
-{
-    file[7] == 0 && file[22] == 0 && file[23] == 0
+impl<'a> Header<'a> {
+    // How many records a section has, as the header has it, and as a number.
+    pub fn count_byte(self, section: Section) -> u8
+        ensures { result ≡ count self.entry.file.now (section_number section) }
+    {
+        self.file[COUNTS_AT + section as usize]
+    }
+
+    pub fn count(self, section: Section) -> usize
+        ensures { (result ≡ count self.entry.file.now (section_number section)) × (result < 256) }
+    {
+        usize::from(self.count_byte(section))
+    }
+
+    // Where a section begins.
+    pub fn offset(self, section: Section) -> usize
+        ensures { (result ≡ offset self.entry.file.now (section_number section)) × (result < 65536) }
+    {
+        word_at(self.file, OFFSETS_AT + section as usize * 2)
+    }
+
+    // Where it ends.
+    pub fn end(self, section: Section) -> usize
+        ensures { result ≡ end self.entry.file.now (section_number section) }
+    {
+        self.offset(section) + self.count(section) * width_of(section)
+    }
+
+    // 2: the edition.
+    #[tactic(auto, unfolding(layout::specs::Header::edition_ok))]
+    pub fn edition_ok(self) -> bool
+        ensures { result ≡ edition_ok self.entry.file.now }
+    {
+        self.file[0] == 1
+    }
+
+    // 3: the counts.
+    pub fn counts_ok(self) -> bool
+        ensures { result ≡ counts_ok self.entry.file.now }
+    {
+        Section::ALL
+            .iter()
+            .all(|section| count_ok(*section, self.count(*section)))
+    }
+
+    // 4: the bytes that are always zero.
+    #[tactic(auto, unfolding(layout::specs::Header::zeros_ok))]
+    pub fn zeros_ok(self) -> bool
+        ensures { result ≡ zeros_ok self.entry.file.now }
+    {
+        self.file[7] == 0 && self.file[22] == 0 && self.file[23] == 0
+    }
 }

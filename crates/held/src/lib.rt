@@ -1,124 +1,66 @@
 // The writer of the list of rights held: how many there are, and then each as skid, tank, right, rising in that order.
 #![tactic(auto)]
 
-ghost use Rattle.std.specs.Prelude.{◌≡◌, [], ◌∷◌, ◌+◌, ◌/◌, ◌<◌, ◌≤◌, length};
-ghost use Rattle.base.specs.Overlay.{overlay, Wrote};
+ghost use Rattle.std.specs.Prelude.{◌≡◌, [], ◌∷◌, ◌/◌, ◌<◌, ◌≤◌, length};
+ghost use Rattle.base.specs.Overlay.{overlay};
 ghost use Rattle.listing.specs.Work.{Known, right_bytes_in, tank_bytes_in, skid_bytes_in, skids_bytes_in, list_bytes_in};
+ghost use Rattle.writer.specs.Writing.{Room, Writes};
 
 use gates::is_held;
 use plant::Right;
+use rules::Monitor;
+use writer::Writer;
 
-fn put_right(out: &mut [u8], at: usize, skid: u8, tank: u8, right: u8) -> usize
-    requires { at + 3 ≤ length out.old }
-    ensures { Wrote (skid ∷ tank ∷ right ∷ []) out.old at out.new result }
+fn put_right(list: &mut Writer, skid: u8, tank: u8, right: u8)
+    requires { Room (skid ∷ tank ∷ right ∷ []) list.old }
+    ensures { Writes (skid ∷ tank ∷ right ∷ []) list.old list.new }
 {
-    let second = at + 1;
-    let third = at + 2;
-    out[at] = skid;
-    out[second] = tank;
-    out[third] = right;
-    at + 3
+    list.word(&[skid, tank, right]);
 }
 
 // Right r on tank o, if skid s holds it.
-fn write_right<'a, 'b>(
-    group: &'a [u8; 64],
-    rights: &'a [u8; 128],
-    running: &'b [u8; 8],
-    chosen: &'b [u8; 64],
-    skids: u8,
-    tanks: u8,
-    s: u8,
-    o: u8,
-    r: u8,
-    out: &mut [u8],
-    at: usize,
-) -> usize
-    requires known { Known group.now running.now skids tanks }
-    requires s_lt_skids { (s < skids) × (o < tanks) }
-    requires r_in_bounds { at + length (right_bytes_in group.now rights.now running.now chosen.now s o r) ≤ length out.old }
-    ensures { Wrote (right_bytes_in group.now rights.now running.now chosen.now s o r) out.old at out.new result }
+fn write_right(m: &Monitor, list: &mut Writer, s: u8, o: u8, r: u8)
+    requires known { Known m.now }
+    requires in_range { (s < m.now.plant.skids) × (o < m.now.plant.tanks) }
+    requires room { Room (right_bytes_in m.now s o r) list.old }
+    ensures { Writes (right_bytes_in m.now s o r) list.old list.new }
 {
-    if is_held(group, rights, running, chosen, s as usize, o, r) {
-        return put_right(out, at, s, o, r);
+    if is_held(&m.plant, &m.running, &m.chosen, usize::from(s), o, r) {
+        put_right(list, s, o, r);
     }
-    at
 }
 
 // The rights on tank o in their order, so that the list rises.
-fn write_tank<'a, 'b>(
-    group: &'a [u8; 64],
-    rights: &'a [u8; 128],
-    running: &'b [u8; 8],
-    chosen: &'b [u8; 64],
-    skids: u8,
-    tanks: u8,
-    s: u8,
-    o: u8,
-    out: &mut [u8],
-    at: usize,
-) -> usize
-    requires known { Known group.now running.now skids tanks }
-    requires s_lt_skids { (s < skids) × (o < tanks) }
-    requires o_in_bounds { at + length (tank_bytes_in group.now rights.now running.now chosen.now s o) ≤ length out.old }
-    ensures { Wrote (tank_bytes_in group.now rights.now running.now chosen.now s o) out.old at out.new result }
+fn write_tank(m: &Monitor, list: &mut Writer, s: u8, o: u8)
+    requires known { Known m.now }
+    requires in_range { (s < m.now.plant.skids) × (o < m.now.plant.tanks) }
+    requires room { Room (tank_bytes_in m.now s o) list.old }
+    ensures { Writes (tank_bytes_in m.now s o) list.old list.new }
 {
-    let numbers = Right::all();
-    let mut end = at;
-    for i in 0..numbers.len() {
-        end = write_right(
-            group, rights, running, chosen, skids, tanks, s, o, numbers[i], out, end,
-        );
+    for r in Right::all() {
+        write_right(m, list, s, o, r);
     }
-    end
 }
 
-fn write_skid<'a, 'b>(
-    group: &'a [u8; 64],
-    rights: &'a [u8; 128],
-    running: &'b [u8; 8],
-    chosen: &'b [u8; 64],
-    skids: u8,
-    tanks: u8,
-    s: u8,
-    out: &mut [u8],
-    at: usize,
-) -> usize
-    requires known { Known group.now running.now skids tanks }
-    requires s_lt_skids { s < skids }
-    requires s_in_bounds { at + length (skid_bytes_in group.now rights.now running.now chosen.now tanks s) ≤ length out.old }
-    ensures { Wrote (skid_bytes_in group.now rights.now running.now chosen.now tanks s) out.old at out.new result }
+fn write_skid(m: &Monitor, list: &mut Writer, s: u8)
+    requires known { Known m.now }
+    requires in_range { s < m.now.plant.skids }
+    requires room { Room (skid_bytes_in m.now s) list.old }
+    ensures { Writes (skid_bytes_in m.now s) list.old list.new }
 {
-    let mut end = at;
-    let mut o: u8 = 0;
-    while o < tanks {
-        end = write_tank(group, rights, running, chosen, skids, tanks, s, o, out, end);
-        o += 1;
+    for o in 0..m.plant.tanks {
+        write_tank(m, list, s, o);
     }
-    end
 }
 
-fn write_skids<'a, 'b>(
-    group: &'a [u8; 64],
-    rights: &'a [u8; 128],
-    running: &'b [u8; 8],
-    chosen: &'b [u8; 64],
-    skids: u8,
-    tanks: u8,
-    out: &mut [u8],
-    at: usize,
-) -> usize
-    requires known { Known group.now running.now skids tanks }
-    requires tanks_in_bounds { at + length (skids_bytes_in group.now rights.now running.now chosen.now skids tanks) ≤ length out.old }
-    ensures { Wrote (skids_bytes_in group.now rights.now running.now chosen.now skids tanks) out.old at out.new result }
+fn write_skids(m: &Monitor, list: &mut Writer)
+    requires known { Known m.now }
+    requires room { Room (skids_bytes_in m.now) list.old }
+    ensures { Writes (skids_bytes_in m.now) list.old list.new }
 {
-    let mut end = at;
-    let mut s: u8 = 0;
-    while s < skids {
-        end = write_skid(group, rights, running, chosen, skids, tanks, s, out, end);
-        s += 1;
+    for s in 0..m.plant.skids {
+        write_skid(m, list, s);
     }
-    end
 }
 
 // How many rights so many bytes are, three each.
@@ -130,19 +72,13 @@ fn rights_in(bytes: usize) -> u8
 }
 
 // The list from the buffer's first byte on. The count is known once the rights are written.
-pub fn write_held<'a, 'b>(
-    group: &'a [u8; 64],
-    rights: &'a [u8; 128],
-    running: &'b [u8; 8],
-    chosen: &'b [u8; 64],
-    skids: u8,
-    tanks: u8,
-    out: &mut [u8],
-)
-    requires known { Known group.now running.now skids tanks }
+pub fn write_held(m: &Monitor, out: &mut [u8])
+    requires known { Known m.now }
     requires in_bounds { 577 ≤ length out.old }
-    ensures { out.new ≡ overlay out.old 0 (list_bytes_in group.now rights.now running.now chosen.now skids tanks) }
+    ensures { out.new ≡ overlay out.old 0 (list_bytes_in m.now) }
 {
-    let end = write_skids(group, rights, running, chosen, skids, tanks, out, 1);
+    let mut list = Writer::new(out, 1);
+    write_skids(m, &mut list);
+    let end = list.end();
     out[0] = rights_in(end - 1);
 }

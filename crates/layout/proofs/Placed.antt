@@ -1,16 +1,21 @@
 -- The section call: the two numbers of a section lie within the file and give the very part that the call returns. Assumes nothing.
-use mathlib.Core.Path.{◌≡◌, ap, ◌∙◌}
-use mathlib.Core.Logic.{◌≢◌}
-use Prim.Native.Nat.{ℕ, ◌+◌, ◌≤◌, ◌<◌, zero-le}
+use mathlib.Core.Path.{◌≡◌, ap, ap₂, ◌∙◌}
+use Prim.Native.Nat.{ℕ, ◌+◌, ◌-◌, ◌≤◌, ◌<◌, zero-le}
+use native.Mathlib.Nat.{add-sub_cancel_left}
 use mathlib.Core.List.{List}
+use mathlib.Core.Bool.{false}
 use lib.Dec.{eqb, ltb}
 use lib.ListN.{length, take, drop}
-use borrow.Author.Tests.{eqb-true, ltb-true, ne_eqb, lt-ltb, le-ltb}
+use borrow.Author.Tests.{eqb-true, ltb-true, lt-ltb, le-ltb}
 use Rattle.base.proofs.Logic.{split, and_true}
 use Rattle.layout.specs.declared.Place.{Place}
-use Rattle.layout.specs.Layout.{sections, offset, size}
+use Rattle.layout.specs.Layout.{sections, offset, end}
 use Rattle.layout.specs.Header.{header_refusal, has_section, section_of, no_place, section_place}
 use Rattle.layout.proofs.Header.{sections_inside}
+
+-- a place of two zeros, as `Place::default` makes it
+pub place_empty : {place : Place} → (place.begin ≡ 0) × (place.length ≡ 0) → place ≡ no_place
+place_empty h = ap₂ (λ (b l : ℕ). record { begin = b; length = l }) h.0 h.1
 
 -- the part of the file that a place says
 abbrev pub part_at : List ℕ → Place → List ℕ
@@ -37,16 +42,16 @@ module _ (file : List ℕ) (kind : ℕ) where
   pub place_part : {r : Place} → r ≡ section_place file kind → part_at file r ≡ section_of file kind
   place_part e = ap (part_at file) e ∙ section_placed
 
-  -- the three ways out: k is the number of the first failed check, and r what is returned
-  module _ {k : ℕ} (e : k ≡ header_refusal file) {r : Place} where
-    pub place_refused : k ≢ 0 → r ≡ no_place → r ≡ section_place file kind
-    unfolding section_place
-    place_refused n q = rw (← e, ne_eqb k 0 n) q
+  -- The three ways out. A refused file, whose number is k; no such section; and the section, from b up to e.
+  pub place_refused : {k : ℕ} → k ≡ header_refusal file → eqb k 0 ≡ false → no_place ≡ section_place file kind
+  unfolding section_place
+  place_refused e n = rw (← e, n)
 
-    pub place_unknown : k ≡ 0 → sections ≤ kind → r ≡ no_place → r ≡ section_place file kind
+  module _ (accepted : 0 ≡ header_refusal file) where
+    pub place_unknown : sections ≤ kind → no_place ≡ section_place file kind
     unfolding section_place
-    place_unknown z l q = rw (← e, z, le-ltb kind sections l) q
+    place_unknown l = rw (← accepted, le-ltb kind sections l)
 
-    pub place_known : k ≡ 0 → kind < sections → r ≡ record { begin = offset file kind; length = size file kind } → r ≡ section_place file kind
+    pub place_known : {f : List ℕ} {b e : ℕ} → f ≡ file → kind < sections → b ≡ offset f kind → e ≡ end f kind → record { begin = b; length = e - b } ≡ section_place file kind
     unfolding section_place
-    place_known z l q = rw (← e, z, lt-ltb kind sections l) q
+    place_known same l p q = rw (← accepted, lt-ltb kind sections l, q, p, same, add-sub_cancel_left)

@@ -3,7 +3,7 @@ use Rattle.std.specs.Prelude.{ℕ, ◌+◌, ◌-◌, ◌&&◌, List, [], ◌∷�
 use Prim.Native.String.{String}
 use Rattle.std.proofs.Math.ListN as ListN
 use Rattle.rules.specs.declared.Monitor.{Monitor}
-use Rattle.requests.specs.declared.Request.{Request}
+use Rattle.calls.specs.declared.Request.{Request}
 use Rattle.queue.specs.Queue.{queue_of, queue_out}
 use Rattle.outcome.specs.Batch.{request_count, batch_refusal, batch_out}
 use Rattle.printing.specs.Text.{codes}

@@ -1,6 +1,6 @@
 -- The requests of queues and batches that the cases go through. The first bytes are those of the paper's session.
 use Rattle.std.specs.Prelude.{ℕ, List, [], ◌∷◌}
-use Rattle.requests.specs.declared.Request.{Request}
+use Rattle.calls.specs.declared.Request.{Request}
 
 -- the session's requests as a batch has them, five bytes each
 unfoldable pub request_bytes : List ℕ

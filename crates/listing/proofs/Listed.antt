@@ -166,14 +166,14 @@ module _ (m : Monitor) (i : intact m.plant m ≡ true) where
   abbrev vs : ℕ → View
   vs = view_of P m
 
-  pub known : Known P.tank_group m.running P.skids P.tanks
+  pub known : Known m
   known = record { skids_fit = (plant_valid m i).counts.skids_fit; tanks_fit = (plant_valid m i).counts.tanks_fit; groups_there = groups_there m i; tasks_known = tasks_known m i }
 
-  one_same : (s o r : ℕ) → s < P.skids → o < P.tanks → right_bytes_in P.tank_group P.task_rights m.running m.chosen s o r ≡ right_bytes (right_at P vs s o r)
+  one_same : (s o r : ℕ) → s < P.skids → o < P.tanks → right_bytes_in m s o r ≡ right_bytes (right_at P vs s o r)
   unfolding right_bytes
   one_same s o r a b = ap (λ (x : Bool). cond x (s ∷ o ∷ r ∷ []) []) (held_same m i s o r a b) ∙ split (holds P (vs s) o r) (λ h. rw h) (λ h. rw h)
 
-  rights_same : skids_bytes_in P.tank_group P.task_rights m.running m.chosen P.skids P.tanks ≡ right_bytes (rights_held P vs)
+  rights_same : skids_bytes_in m ≡ right_bytes (rights_held P vs)
   unfolding rights_held
   rights_same =
       collect_same _ _ P.skids (λ s a.
@@ -181,7 +181,7 @@ module _ (m : Monitor) (i : intact m.plant m ≡ true) where
       ∙ sym (bytes_collect (rights_on P vs s) P.tanks))
       ∙ sym (bytes_collect (rights_by P vs) P.skids)
 
-  pub written_listing : list_bytes_in P.tank_group P.task_rights m.running m.chosen P.skids P.tanks ≡ listing (rights_held P vs)
+  pub written_listing : list_bytes_in m ≡ listing (rights_held P vs)
   written_listing =
       ap (λ (l : List ℕ). length l / 3 ∷ l) rights_same
       ∙ ap (λ (n : ℕ). n ∷ right_bytes (rights_held P vs)) (let e : length (right_bytes (rights_held P vs)) / 3 ≡ length (rights_held P vs) = omega (arith, bytes_length (rights_held P vs)) in e)
@@ -189,4 +189,4 @@ module _ (m : Monitor) (i : intact m.plant m ≡ true) where
   -- at most 192 rights are held
   pub held_at_most : length (rights_held P vs) ≤ 192
   held_at_most =
-      omega (arith, list_short P.tank_group P.task_rights m.running m.chosen P.skids P.tanks known, ap length rights_same, bytes_length (rights_held P vs))
+      omega (arith, list_short m known, ap length rights_same, bytes_length (rights_held P vs))

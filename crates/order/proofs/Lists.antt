@@ -10,7 +10,7 @@ use Rattle.rules.specs.declared.Monitor.{Monitor}
 use Rattle.rules.specs.Rules.{unknown}
 use Rattle.rules.specs.Record.{fresh, intact, final}
 use Rattle.requests.specs.Calls.{opened_of}
-use Rattle.requests.specs.declared.Request.{Request}
+use Rattle.calls.specs.declared.Request.{Request}
 use Rattle.requests.specs.Requests.{call_of}
 use Rattle.queue.specs.Queue.{queue_refusal}
 use Rattle.calls.proofs.Served.{calls_length, calls_at}

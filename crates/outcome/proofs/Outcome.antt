@@ -55,7 +55,7 @@ module _ (P : Plant) (q : plant_refusal true true P ≡ 0) (bytes : List ℕ) (n
   i : intact m.plant m ≡ true
   i = still_intact P q bytes n e
 
-  pub rights_known : Known m.plant.tank_group m.running m.plant.skids m.plant.tanks
+  pub rights_known : Known m
   rights_known = known m i
 
   answered : length (runs (fresh P) cs) ≡ n
@@ -70,9 +70,9 @@ module _ (P : Plant) (q : plant_refusal true true P ≡ 0) (bytes : List ℕ) (n
     room_left = omega (arith, as_long, length-take (length out₁ - n) (drop n out₁), length-drop n out₁)
 
     -- ys is the rest of the buffer with the list of rights in it
-    pub outcome_out : {ys : List ℕ} → ys ≡ overlay (take (length out₁ - n) (drop n out₁)) 0 (list_bytes_in m.plant.tank_group m.plant.task_rights m.running m.chosen m.plant.skids m.plant.tanks) → take n out₁ ++ (ys ++ drop (length out₁ - n) (drop n out₁)) ≡ overlay out 0 (outcome P cs)
+    pub outcome_out : {ys : List ℕ} → ys ≡ overlay (take (length out₁ - n) (drop n out₁)) 0 (list_bytes_in m) → take n out₁ ++ (ys ++ drop (length out₁ - n) (drop n out₁)) ≡ overlay out 0 (outcome P cs)
     outcome_out {ys} w =
-        let ws : List ℕ = list_bytes_in m.plant.tank_group m.plant.task_rights m.running m.chosen m.plant.skids m.plant.tanks in
+        let ws : List ℕ = list_bytes_in m in
         let answers : List ℕ = runs (fresh P) cs in
         let at : 0 + length answers ≡ n = omega (arith, answered) in
         overlay_part out₁ n ws ys (omega (arith, as_long)) w

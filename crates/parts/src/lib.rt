@@ -1,117 +1,131 @@
-// The sections of a plant file: checks 5 and 6, the part that a section fills, and the section call.
+// The sections of a plant file: checks 5 and 6, a file that passes 1 to 6, the part that a section fills, and the section call.
 #![tactic(auto)]
 
-ghost use Rattle.std.specs.Prelude.{◌≡◌, ◌+◌, ◌<◌, ◌≤◌, length};
+ghost use Rattle.std.specs.Prelude.{◌≡◌, ◌*◌, ◌≤◌, length, IfOk};
 ghost use Rattle.base.specs.Below.{all_below};
-ghost use Rattle.layout.specs.Layout.{header_bytes, end, part};
-ghost use Rattle.layout.specs.Section.{section_number};
-ghost use Rattle.layout.specs.Header.{inside, all_inside, apart, all_apart, header_refusal, no_place, section_place, section_of};
 ghost use Rattle.refusal.specs.Number.{answer_of};
+ghost use Rattle.layout.specs.Layout.{file_limit, width, limit, count, part};
+ghost use Rattle.layout.specs.Section.{section_number};
+ghost use Rattle.layout.specs.Header.{inside, all_inside, apart, all_apart, header_refusal, section_place, section_of};
 
-use header::{HEADER_BYTES, counts_ok, edition_ok, end_of, length_ok, offset_of, zeros_ok};
+use header::{HEADER_BYTES, Header, length_ok, width_of};
 use layout::{Place, Section};
 use refusal::Refusal;
 
 // 5: where the sections begin and end.
 #[tactic(auto, unfolding(layout::specs::Header::inside))]
-fn is_inside(file: &[u8], section: Section) -> bool
-    requires { header_bytes ≤ length file.now }
-    ensures { result ≡ inside file.now (section_number section) }
+fn is_inside(header: Header, section: Section) -> bool
+    ensures { result ≡ inside header.entry.file.now (section_number section) }
 {
-    HEADER_BYTES <= offset_of(file, section) && end_of(file, section) <= file.len()
+    HEADER_BYTES <= header.offset(section) && header.end(section) <= header.file.len()
 }
 
-fn all_inside(file: &[u8]) -> bool
-    requires { header_bytes ≤ length file.now }
-    ensures { result ≡ all_inside file.now }
+fn all_inside(header: Header) -> bool
+    ensures { result ≡ all_inside header.entry.file.now }
 {
-    Section::ALL.iter().all(|section| is_inside(file, *section))
+    Section::ALL
+        .iter()
+        .all(|section| is_inside(header, *section))
 }
 
 // 6: two sections that share no byte.
 #[tactic(auto, unfolding(layout::specs::Header::apart))]
-fn are_apart(file: &[u8], a: Section, b: Section) -> bool
-    requires { header_bytes ≤ length file.now }
-    ensures { result ≡ apart file.now (section_number a) (section_number b) }
+fn are_apart(header: Header, a: Section, b: Section) -> bool
+    ensures { result ≡ apart header.entry.file.now (section_number a) (section_number b) }
 {
-    end_of(file, a) <= offset_of(file, b) || end_of(file, b) <= offset_of(file, a)
+    header.end(a) <= header.offset(b) || header.end(b) <= header.offset(a)
 }
 
-fn apart_from_earlier(file: &[u8], section: Section) -> bool
-    requires { header_bytes ≤ length file.now }
-    ensures { let k = section_number section in result ≡ all_below (apart file.now k) k }
+fn apart_from_earlier(header: Header, section: Section) -> bool
+    ensures { let k = section_number section in result ≡ all_below (apart header.entry.file.now k) k }
 {
     Section::ALL[..section as usize]
         .iter()
-        .all(|earlier| are_apart(file, section, *earlier))
+        .all(|earlier| are_apart(header, section, *earlier))
 }
 
-fn all_apart(file: &[u8]) -> bool
-    requires { header_bytes ≤ length file.now }
-    ensures { result ≡ all_apart file.now }
+fn all_apart(header: Header) -> bool
+    ensures { result ≡ all_apart header.entry.file.now }
 {
     Section::ALL
         .iter()
-        .all(|section| apart_from_earlier(file, *section))
+        .all(|section| apart_from_earlier(header, *section))
 }
 
-// Checks 1 to 6.
+// A file that passes checks 1 to 6.
+#[derive(Clone, Copy)]
+pub struct PlantFile<'a> {
+    pub header: Header<'a>,
+    pub ghost placed: { header_refusal header.file.now ≡ 0 },
+}
+
+// The part of a file that a section fills: its records, how many they are, and how wide each is.
+#[derive(Clone, Copy)]
+pub struct Part<'a> {
+    pub bytes: &'a [u8],
+    pub width: usize,
+    pub count: usize,
+    pub ghost there: { count * width ≤ length bytes.now },
+    pub ghost within_limit: { count * width ≤ file_limit },
+}
+
+impl<'a> PlantFile<'a> {
+    pub fn part(self, section: Section) -> Part<'a>
+        ensures bytes { result.bytes.now ≡ part self.entry.header.file.now (section_number section) }
+        ensures width { result.width ≡ width (section_number section) }
+        ensures count { result.count ≡ count self.entry.header.file.now (section_number section) }
+        ensures few { result.count ≤ limit (section_number section) }
+    {
+        let begin = self.header.offset(section);
+        let end = self.header.end(section);
+        Part {
+            bytes: &self.header.file[begin..end],
+            width: width_of(section),
+            count: self.header.count(section),
+        }
+    }
+}
+
+// The file, or the first of 1 to 6 that fails.
 #[tactic(auto, using(base::proofs::Chain::checks), unfolding(layout::specs::Header::header_refusal))]
-pub fn check_header(file: &[u8]) -> Result<(), Refusal>
-    ensures { answer_of result ≡ header_refusal file.now }
+pub fn check_header(file: &[u8]) -> Result<PlantFile<'_>, Refusal>
+    ensures number { answer_of result ≡ header_refusal file.now }
+    ensures same { IfOk result (λ plant_file. plant_file.header.file.now ≡ file.now) }
 {
     if !length_ok(file) {
         return Err(Refusal::WrongLength);
     }
-    if !edition_ok(file) {
+    let header = Header { file };
+    if !header.edition_ok() {
         return Err(Refusal::WrongEdition);
     }
-    if !counts_ok(file) {
+    if !header.counts_ok() {
         return Err(Refusal::CountOutOfRange);
     }
-    if !zeros_ok(file) {
+    if !header.zeros_ok() {
         return Err(Refusal::HeaderByteNotZero);
     }
-    if !all_inside(file) {
+    if !all_inside(header) {
         return Err(Refusal::SectionOutside);
     }
-    if !all_apart(file) {
+    if !all_apart(header) {
         return Err(Refusal::SectionsShare);
     }
-    Ok(())
-}
-
-// The part of the file that a section fills.
-pub fn part_of(file: &[u8], section: Section) -> &[u8]
-    requires { header_refusal file.now ≡ 0 }
-    ensures { result.now ≡ part file.now (section_number section) }
-{
-    let off = offset_of(file, section);
-    let end = end_of(file, section);
-    &file[off..end]
-}
-
-fn no_place() -> Place
-    ensures { result ≡ no_place }
-{
-    Place {
-        begin: 0,
-        length: 0,
-    }
+    Ok(PlantFile { header })
 }
 
 // Where 01's section stands in the caller's bytes, for any bytes and any kind; an empty part at their start on refusal.
 pub fn section_place(file: &[u8], kind: usize) -> Place
     ensures { result ≡ section_place file.now kind }
 {
-    if check_header(file).is_err() {
-        return no_place();
-    }
-    let Ok(section) = Section::try_from(kind) else {
-        return no_place();
+    let Ok(plant_file) = check_header(file) else {
+        return Place::default();
     };
-    let begin = offset_of(file, section);
-    let end = end_of(file, section);
+    let Ok(section) = Section::try_from(kind) else {
+        return Place::default();
+    };
+    let begin = plant_file.header.offset(section);
+    let end = plant_file.header.end(section);
     Place {
         begin,
         length: end - begin,

@@ -40,7 +40,7 @@ right_short s o r a b c =
 held_short : (n : ℕ) → n < 256 → length (held_line n) ≤ 9
 held_short n l = omega (arith, one_length (decimal n), byte_short n l)
 
-refusal_short : (n : ℕ) → n < 256 → length (refusal_line n) ≤ 13
+pub refusal_short : (n : ℕ) → n < 256 → length (refusal_line n) ≤ 13
 refusal_short n l = split (eqb n 34) (λ e. rw e (omega (arith, one_length (decimal n), byte_short n l))) (λ e. rw e (omega (arith, one_length (decimal n), byte_short n l)))
 
 answers_short : (answers : List ℕ) (n : ℕ) → Bytes answers → n < 100000 → length (answer_lines answers n) ≤ n * 10

@@ -20,7 +20,7 @@ use Rattle.rules.specs.Record.{intact, after, replies, final}
 use Rattle.rules.proofs.Lists.{final_snoc, replies_snoc}
 use Rattle.requests.specs.declared.Answered.{Answered}
 use Rattle.requests.specs.Calls.{step_of}
-use Rattle.requests.specs.declared.Request.{Request}
+use Rattle.calls.specs.declared.Request.{Request}
 use Rattle.requests.specs.Requests.{call_of}
 use Rattle.queue.specs.Queue.{queue_refusal, queue_of, queue_out}
 

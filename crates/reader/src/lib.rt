@@ -1,18 +1,14 @@
-// The reader of plant files: any bytes give opening's number, and the plant where it is 0.
+// The reader of plant files: any bytes give opening's number, or the plant.
 #![tactic(auto)]
 
-ghost use Rattle.std.specs.Prelude.{◌≡◌, ◌<◌, IfOk};
-ghost use Rattle.layout.specs.Layout.{width};
-ghost use Rattle.layout.specs.Section.{section_number};
-ghost use Rattle.layout.specs.Header.{header_refusal};
-ghost use Rattle.opening.specs.Reading.{zero_byte, zeros, other_zeros, reading_of};
+ghost use Rattle.std.specs.Prelude.{◌≡◌, IfOk};
+ghost use Rattle.opening.specs.Reading.{other_zeros, reading_of};
 ghost use Rattle.refusal.specs.Number.{answer_of};
 
 use cells::zeros_at;
 use checks::check_plant;
-use header::{count_of, width_of};
 use layout::Section;
-use parts::{check_header, part_of};
+use parts::{PlantFile, check_header};
 use plant::Plant;
 use records::plant_from;
 use refusal::Refusal;
@@ -20,28 +16,14 @@ use refusal::Refusal;
 // The byte of a lattice, a requirement, a group or a task that is always zero.
 const ZERO_BYTE: usize = 1;
 
-// Whether the zero byte of each record of a section is zero.
-fn zeros_in(file: &[u8], section: Section) -> bool
-    requires file_ok { header_refusal file.now ≡ 0 }
-    requires zero_byte_in { zero_byte < width (section_number section) }
-    ensures { result ≡ zeros file.now (section_number section) }
-{
-    let n = count_of(file, section);
-    zeros_at(part_of(file, section), width_of(section), ZERO_BYTE, n)
-}
-
+// The zero bytes of the records that check 10 tests.
 #[tactic(auto, unfolding(opening::specs::Reading::other_zeros))]
-fn other_zeros(file: &[u8]) -> bool
-    requires { header_refusal file.now ≡ 0 }
-    ensures { result ≡ other_zeros file.now }
+fn other_zeros(file: PlantFile) -> bool
+    ensures { result ≡ other_zeros file.entry.header.file.now }
 {
-    if !zeros_in(file, Section::Requirements) {
-        return false;
-    }
-    if !zeros_in(file, Section::Groups) {
-        return false;
-    }
-    zeros_in(file, Section::Tasks)
+    zeros_at(file, Section::Requirements, ZERO_BYTE)
+        && zeros_at(file, Section::Groups, ZERO_BYTE)
+        && zeros_at(file, Section::Tasks, ZERO_BYTE)
 }
 
 // Any bytes: opening's number, or the plant.
@@ -49,8 +31,9 @@ pub fn read(file: &[u8]) -> Result<Plant, Refusal>
     ensures refused { answer_of result ≡ (reading_of file.now).answer }
     ensures plant { IfOk result (λ plant. plant ≡ (reading_of file.now).plant) }
 {
-    check_header(file)?;
-    let plant = plant_from(file);
-    check_plant(&plant, zeros_in(file, Section::Lattices), other_zeros(file))?;
+    let plant_file = check_header(file)?;
+    let plant = plant_from(plant_file);
+    let lattice_zeros = zeros_at(plant_file, Section::Lattices, ZERO_BYTE);
+    check_plant(&plant, lattice_zeros, other_zeros(plant_file))?;
     Ok(plant)
 }

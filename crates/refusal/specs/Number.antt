@@ -1,5 +1,5 @@
 -- The number of each refusal, and the answer of an outcome that may be one. The rules, which speak of numbers, do not stand on this.
-use Rattle.std.specs.Prelude.{ℕ, Result, Ok, Err}
+use Rattle.std.specs.Prelude.{ℕ, Bool, cond, Result, Ok, Err}
 use Rattle.refusal.specs.declared.Refusal.{Refusal}
 use Rattle.refusal.specs.declared.Refusal.TheVariants.{WrongLength, WrongEdition, CountOutOfRange, HeaderByteNotZero, SectionOutside, SectionsShare, LatticeMalformed, NotAnOrder, NotALattice, EntryOutOfRange, TanksAtOneLevel, RequirementNotNamed, MonitorNotIntact, NoSuchSkid, NoSuchTask, NoSuchRequirement, NoSuchLevel, MayNotRun, AlreadyRuns, LevelNotSet, NoTankAtOrUnder, NoSuchTank, NoSuchRight, BufferTooShort, NoSuchKind, RequestsNotWhole}
 
@@ -36,3 +36,8 @@ number_of RequestsNotWhole = 34
 abbrev pub answer_of : {A : Type 0} → Result A Refusal → ℕ
 answer_of (Ok _) = 0
 answer_of (Err refusal) = number_of refusal
+
+-- A gate that is not refused answers 0 where the right is held, and 33 where it is not.
+abbrev pub gate_answer_of : Result Bool Refusal → ℕ
+gate_answer_of (Ok held) = cond held 0 33
+gate_answer_of (Err refusal) = number_of refusal

@@ -2,7 +2,7 @@
 #![tactic(auto)]
 
 ghost use Rattle.std.specs.Prelude.{◌≡◌};
-ghost use Rattle.refusal.specs.Number.{number_of, answer_of};
+ghost use Rattle.refusal.specs.Number.{number_of, answer_of, gate_answer_of};
 
 // The conditions that refuse, each with its number. include/permits.h has the same under the same names, and says what each is.
 #[derive(Clone, Copy, Debug, PartialEq, Eq)]
@@ -51,6 +51,17 @@ pub fn answer(outcome: Result<(), Refusal>) -> u8
 {
     match outcome {
         Ok(()) => 0,
+        Err(refusal) => refusal.number(),
+    }
+}
+
+// The answer of a gate: 33 is no refusal, and says that the right is not held.
+pub fn gate_answer(outcome: Result<bool, Refusal>) -> u8
+    ensures { result ≡ gate_answer_of outcome }
+{
+    match outcome {
+        Ok(true) => 0,
+        Ok(false) => 33,
         Err(refusal) => refusal.number(),
     }
 }

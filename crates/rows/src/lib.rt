@@ -1,20 +1,55 @@
-// A row of the table of joins: the join of one level with each level of its lattice, found by the sets of the levels.
+// The levels of a lattice in order, and a row of their table of joins: the join of one level with each level, found by the sets of the levels.
 #![tactic(auto)]
 
-ghost use Rattle.std.specs.Prelude.{◌≡◌, true, cond, eqb, ◌<◌, ◌≤◌};
+ghost use Rattle.std.specs.Prelude.{◌≡◌, get_or, ℕ, ◌^◌, true, cond, eqb, ◌<◌, ◌≤◌};
 ghost use Rattle.base.specs.Below.{all_below};
 ghost use Rattle.base.specs.Bits.{bit};
-ghost use Rattle.lattice.specs.Sets.{under_in, OrderedSets, Turned, numbers_to, upper_row, marked};
+ghost use Rattle.lattice.specs.Sets.{under_in, OrderedSets, Turned, added, turned_sets, numbers_to, upper_row, marked};
 ghost use Rattle.lattice.specs.Table.{join_row};
 
-use sets::{byte_where, has, wider};
+use lattice::Lattice;
+use sets::{byte_where, has};
+use std::array;
+
+// Levels in order: bit j of above[i] where level j is at or above level i, and bit j of under[i] where it is at or under it.
+#[derive(Clone, Copy)]
+pub struct Levels {
+    pub count: usize,
+    pub above: [u16; 16],
+    pub under: [u16; 16],
+    pub ghost ordered: { OrderedSets count above },
+    pub ghost turned_ordered: { OrderedSets count under },
+    pub ghost turned: { Turned count above under },
+}
+
+// Level i, whose set is x, goes into the turned sets of the levels of x.
+#[tactic(auto, using(base::proofs::Filled::filled))]
+fn add_level(t: &mut [u16; 16], x: u16, i: usize)
+    requires { (i < 16) × ((j : ℕ) → j < 16 → get_or t.old j 0 < 2 ^ i) }
+    ensures { t.new ≡ added t.old x i }
+{
+    for (j, set) in t.iter_mut().enumerate() {
+        *set += u16::from(has(x, j)) << i;
+    }
+}
+
+// The sets of the turned order, in which a join is a meet of the given one.
+fn turned_sets(s: &[u16; 16]) -> [u16; 16]
+    ensures { result ≡ turned_sets s.now }
+{
+    let mut t = [0u16; 16];
+    for (i, x) in s.iter().enumerate() {
+        add_level(&mut t, *x, i);
+    }
+    t
+}
 
 // The set x has n levels, the lowest numbers, and no other: so each of them is in it.
 fn is_all(x: u16, n: usize) -> bool
     requires { n ≤ 16 }
     ensures { result ≡ true → all_below (bit x) n ≡ true }
 {
-    wider(x) + 1 == 1u32 << n
+    u32::from(x) + 1 == 1u32 << n
 }
 
 // The numbers of the levels as bytes, and 255 from n on.
@@ -22,28 +57,7 @@ pub fn numbers_to(n: usize) -> [u8; 16]
     requires { n ≤ 16 }
     ensures { result ≡ numbers_to n }
 {
-    let mut numbers = [255u8; 16];
-    let mut j: usize = 0;
-    while j < n {
-        numbers[j] = j as u8;
-        j += 1;
-    }
-    numbers
-}
-
-// Level i where it is above level j, and else the number of j. The loop has a fixed length; a level that is not used is under none.
-fn upper_row<'a, 'b>(s: &'a [u16; 16], numbers: &'b [u8; 16], i: usize) -> [u8; 16]
-    requires { i < 16 }
-    ensures { result ≡ upper_row s.now numbers.now i }
-{
-    let own = i as u8;
-    let mut row = [255u8; 16];
-    let mut j: usize = 0;
-    while j < 16 {
-        row[j] = byte_where(s[j], i, own, numbers[j]);
-        j += 1;
-    }
-    row
+    array::from_fn(|j| if j < n { j as u8 } else { 255 })
 }
 
 // Level k where its set is what two levels share, and else what was found before.
@@ -54,52 +68,78 @@ fn level_or(shared: u16, own: u16, k: u8, before: u8) -> u8
 }
 
 // Level k is the join of the level whose set is x and of each level whose set shares with x what set k has.
+#[tactic(auto, using(base::proofs::Filled::filled))]
 fn mark(row: &mut [u8; 16], s: &[u16; 16], x: u16, k: usize)
     requires { k < 16 }
     ensures { row.new ≡ marked s.now x k row.old }
 {
     let own = s[k];
     let number = k as u8;
-    let mut j: usize = 0;
-    while j < 16 {
-        row[j] = level_or(x & s[j], own, number, row[j]);
-        j += 1;
+    for (j, entry) in row.iter_mut().enumerate() {
+        *entry = level_or(x & s[j], own, number, *entry);
     }
 }
 
-// A level that is a join with level i is above it, so the others are passed over. Entries from n on stay 255: a set that is not used shares
-// nothing.
-fn searched_row(s: &[u16; 16], n: usize, i: usize) -> [u8; 16]
-    requires { OrderedSets n s.now × (i < n) }
-    ensures { result ≡ join_row n (under_in s.now) i }
-{
-    let x = s[i];
-    let mut found = [255u8; 16];
-    let mut k: usize = 0;
-    while k < n {
-        if has(x, k) {
-            mark(&mut found, s, x, k);
+impl Levels {
+    pub fn of(lattice: &Lattice) -> Levels
+        requires { OrderedSets lattice.now.n lattice.now.sets }
+        ensures count { result.count ≡ lattice.now.n }
+        ensures above { result.above ≡ lattice.now.sets }
+        ensures under { result.under ≡ turned_sets lattice.now.sets }
+    {
+        Levels {
+            count: usize::from(lattice.n),
+            above: lattice.sets,
+            under: turned_sets(&lattice.sets),
         }
-        k += 1;
     }
-    found
-}
 
-// Where each level is under level i or above it, which the sets of both orders show at once, the join is the upper one and the row wants no
-// search.
-pub fn join_row<'a, 'b>(
-    s: &'a [u16; 16],
-    t: &'a [u16; 16],
-    numbers: &'b [u8; 16],
-    n: usize,
-    i: usize,
-) -> [u8; 16]
-    requires ordered_sets { OrderedSets n s.now × (i < n) }
-    requires turned { Turned n s.now t.now × (numbers.now ≡ numbers_to n) }
-    ensures { result ≡ join_row n (under_in s.now) i }
-{
-    if is_all(s[i] | t[i], n) {
-        return upper_row(s, numbers, i);
+    // The turned order, in which a join is a meet of this one.
+    pub fn turned(&self) -> Levels
+        ensures count { result.count ≡ self.now.count }
+        ensures above { result.above ≡ self.now.under }
+        ensures under { result.under ≡ self.now.above }
+    {
+        Levels {
+            count: self.count,
+            above: self.under,
+            under: self.above,
+        }
     }
-    searched_row(s, n, i)
+
+    // Level i where it is above level j, and else the number of j. All sixteen entries are made: a level that is not used is under none.
+    fn upper_row(&self, numbers: &[u8; 16], i: usize) -> [u8; 16]
+        requires { i < 16 }
+        ensures { result ≡ upper_row self.now.above numbers.now i }
+    {
+        array::from_fn(|j| byte_where(self.above[j], i, i as u8, numbers[j]))
+    }
+
+    // A level that is a join with level i is above it, so the others are passed over. Entries past the levels stay 255: a set that is not
+    // used shares nothing.
+    fn searched_row(&self, i: usize) -> [u8; 16]
+        requires { i < self.now.count }
+        ensures { result ≡ join_row self.now.count (under_in self.now.above) i }
+    {
+        let x = self.above[i];
+        let mut found = [255u8; 16];
+        for k in 0..self.count {
+            if has(x, k) {
+                mark(&mut found, &self.above, x, k);
+            }
+        }
+        found
+    }
+
+    // Where each level is under level i or above it, which its two sets show at once, the join is the upper one and the row wants no search.
+    pub fn join_row(&self, numbers: &[u8; 16], i: usize) -> [u8; 16]
+        requires { (i < self.now.count) × (numbers.now ≡ numbers_to self.now.count) }
+        ensures { result ≡ join_row self.now.count (under_in self.now.above) i }
+    {
+        if is_all(self.above[i] | self.under[i], self.count) {
+            self.upper_row(numbers, i)
+        } else {
+            self.searched_row(i)
+        }
+    }
 }

@@ -1,15 +1,15 @@
 // The program's input as a plant and requests, and the text of what the batch makes of them.
 #![tactic(auto)]
 
-ghost use Rattle.std.specs.Prelude.{◌<◌, ◌≤◌, length};
-ghost use Rattle.base.specs.Overlay.{Wrote};
+ghost use Rattle.std.specs.Prelude.{◌+◌, ◌≤◌, length};
 ghost use Rattle.printing.specs.Printed.{batch_lines, printed, PrintsRead};
+ghost use Rattle.writer.specs.Writing.{Writes};
 
 use batch_call::call_batch;
 use header::{HEADER_BYTES, length_said};
-use refusal::answer;
 use lines::{print_outcome, put_refusal};
-use text::put_word;
+use refusal::Refusal;
+use writer::Writer;
 
 // What the program reads into: one byte more than is taken, so that longer input shows.
 pub const INPUT: usize = 65537;
@@ -20,40 +20,40 @@ const RESULTS: usize = 13107 + 766;
 // Room for 13,107 lines of ten bytes, the held line, and 255 lines of twelve.
 pub const TEXT: usize = 131070 + 3069;
 
-fn print_batch(plant: &[u8], requests: &[u8], text: &mut [u8]) -> usize
-    requires { (length requests.now ≤ 65536) × (134139 ≤ length text.old) }
-    ensures { Wrote (batch_lines plant.now requests.now) text.old 0 text.new result }
+fn print_batch(plant: &[u8], requests: &[u8], text: &mut Writer)
+    requires in_range { length requests.now ≤ 65536 }
+    requires room { text.old.at + 134139 ≤ length text.old.bytes.now }
+    ensures { Writes (batch_lines plant.now requests.now) text.old text.new }
 {
     let mut results = [0u8; RESULTS];
-    let number = answer(call_batch(plant, requests, &mut results));
-    print_outcome(number, &results, requests.len() / 5, text)
+    let outcome = call_batch(plant, requests, &mut results);
+    print_outcome(text, outcome, &results, requests.len() / 5);
 }
 
 // Over 65,536 bytes are too long. A plant that is not all there is refused with 1, as a file of another length than it says.
-fn print_session(input: &[u8], text: &mut [u8; TEXT]) -> usize
-    ensures { Wrote (printed input.now) text.old 0 text.new result }
+fn print_session(input: &[u8], text: &mut Writer)
+    requires room { text.old.at + 134139 ≤ length text.old.bytes.now }
+    ensures { Writes (printed input.now) text.old text.new }
 {
     if input.len() > 65536 {
-        return put_word(text, 0, b"long\n");
+        return text.word(b"long\n");
     }
     if input.len() < HEADER_BYTES {
-        return put_refusal(text, 0, 1);
+        return put_refusal(text, Refusal::WrongLength);
     }
-    let k = length_said(input);
-    if input.len() < k {
-        return put_refusal(text, 0, 1);
+    match input.split_at_checked(length_said(input)) {
+        Some((plant, requests)) => print_batch(plant, requests, text),
+        None => put_refusal(text, Refusal::WrongLength),
     }
-    print_batch(&input[..k], &input[k..], text)
 }
 
-// Of what the program read: the first n bytes of the array, or all of it where n is more.
+// What the program read: the first n bytes of the array, or all of it where n is more.
 pub fn print_read(input: &[u8; INPUT], n: usize, text: &mut [u8; TEXT]) -> usize
     ensures { PrintsRead input.now n text.old text.new result }
 {
     // as a slice, since the check does not cover a part of an array that is lent
     let bytes: &[u8] = input;
-    if n > bytes.len() {
-        return print_session(bytes, text);
-    }
-    print_session(&bytes[..n], text)
+    let mut writer = Writer::new(text, 0);
+    print_session(&bytes[..n.min(bytes.len())], &mut writer);
+    writer.end()
 }

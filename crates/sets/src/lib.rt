@@ -1,4 +1,4 @@
-// Small numbers: sets of those under sixteen, a bit each, and numbers made wider.
+// Sets of numbers under sixteen, a bit each.
 #![tactic(auto)]
 
 ghost use Rattle.std.specs.Prelude.{◌≡◌, cond, not, ◌&&◌, ◌||◌, eqb, ℕ, ◌^◌, ◌<◌, MatchOption};
@@ -6,20 +6,6 @@ ghost use Rattle.std.specs.Int.Bits.{bit_or};
 ghost use Rattle.std.specs.Iterator.{at_most};
 ghost use Rattle.base.specs.Bits.{bit};
 ghost use Rattle.sets.specs.Members.{TakenFrom};
-
-// A byte as an index.
-pub fn wide(x: u8) -> usize
-    ensures { result ≡ x }
-{
-    x as usize
-}
-
-// A set may be shifted by 16, for n = 16, which its own width does not allow.
-pub fn wider(x: u16) -> u32
-    ensures { result ≡ x }
-{
-    x as u32
-}
 
 // Level i is in the set x.
 pub fn has(x: u16, i: usize) -> bool

@@ -3,11 +3,11 @@
 
 ghost use Rattle.std.specs.Prelude.{◌≡◌, true};
 ghost use Rattle.rules.specs.Record.{intact};
-ghost use Rattle.calls.specs.Lent.{call_by};
 ghost use Rattle.requests.specs.Calls.{step_of};
 ghost use Rattle.requests.specs.Requests.{call_of};
 
-use requests::{Answered, Request};
+use calls::Request;
+use requests::Answered;
 use rules::Monitor;
 use single::call_at;
 
@@ -21,42 +21,6 @@ pub fn advance(m: Monitor, r: Request) -> Answered
         answer: 0,
         monitor: m,
     };
-    let after = &mut x.monitor;
-    x.answer = call_at(
-        &after.plant,
-        &mut after.levels,
-        &mut after.running,
-        &mut after.chosen,
-        r.kind,
-        r.a,
-        r.b,
-        r.c,
-        r.d,
-    );
-    x
-}
-
-// The same of a request's five bytes, for a caller that makes no other request on the record. It does its own work: made through the other, it would
-// copy the record once more.
-pub fn call_tested(m: Monitor, kind: u8, a: u8, b: u8, c: u8, d: u8) -> Answered
-    requires { intact m.plant m ≡ true }
-    ensures { result ≡ step_of m (call_by kind a b c d) }
-{
-    let mut x = Answered {
-        answer: 0,
-        monitor: m,
-    };
-    let left = &mut x.monitor;
-    x.answer = call_at(
-        &left.plant,
-        &mut left.levels,
-        &mut left.running,
-        &mut left.chosen,
-        kind,
-        a,
-        b,
-        c,
-        d,
-    );
+    x.answer = call_at(&mut x.monitor, r);
     x
 }

@@ -3,75 +3,69 @@
 #![tactic(auto)]
 
 ghost use Rattle.std.specs.Prelude.{◌≡◌, true};
-ghost use Rattle.rules.specs.Record.{record_of, intact};
-ghost use Rattle.calls.specs.Work.{Granted};
-ghost use Rattle.calls.specs.Lent.{call_by, Does, Tables};
+ghost use Rattle.refusal.specs.Number.{answer_of};
+ghost use Rattle.rules.specs.Rules.{start, stop};
+ghost use Rattle.rules.specs.Record.{intact};
+ghost use Rattle.calls.specs.Lent.{call_by, Does, Keeps};
 
-use calls::PlantCounts;
+use calls::{Call, Kept, Request};
 use gates::gate_granted;
-use plant::Plant;
+use refusal::{Refusal, answer, gate_answer};
+use rules::Monitor;
 use starts::start_at;
 use steps::{grant_row, put_row, set_at, stop_at};
 
-// One request of a list. `made` has the table of choices and `needs` the groups of each task, once a start made them, and `granted` the rights of the
-// running tasks.
-pub fn turn(
-    p: &Plant,
-    levels: &mut [u8; 1024],
-    running: &mut [u8; 8],
-    chosen: &mut [u8; 64],
-    made: &mut [u8; 128],
-    needs: &mut [u16; 16],
-    granted: &mut [u8; 64],
-    kind: u8,
-    a: u8,
-    b: u8,
-    c: u8,
-    d: u8,
-) -> u8
-    requires passes_test_20 { intact p.now (record_of p.now levels.old running.old chosen.old) ≡ true }
-    requires tables { Tables p.now made.old needs.old }
-    requires granted { Granted p.now.task_rights running.old p.now.skids granted.old }
-    ensures does { Does (record_of p.now levels.old running.old chosen.old) (call_by kind a b c d) result (record_of p.now levels.new running.new chosen.new) }
-    ensures tables { Tables p.now made.new needs.new }
-    ensures granted { Granted p.now.task_rights running.new p.now.skids granted.new }
+// A start, by which the skid has the rights of its task.
+fn start_kept(m: &mut Monitor, kept: &mut Kept, s: u8, t: u8) -> Result<(), Refusal>
+    requires passes_test_20 { intact m.old.plant m.old ≡ true }
+    requires keeps { Keeps m.old kept.old }
+    ensures does { Does m.old (start s t) (answer_of result) m.new }
+    ensures keeps { Keeps m.new kept.new }
 {
-    let counts = PlantCounts {
-        lattices: p.lattices,
-        requirements: p.requirements,
-        groups: p.groups,
-        tanks: p.tanks,
-        tasks: p.tasks,
-        skids: p.skids,
-    };
-    if 2 < kind {
-        if kind == 3 {
-            return gate_granted(counts, &p.tank_group, granted, chosen, a, b, c);
-        }
-        return 32;
+    start_at(m, &mut kept.made, &mut kept.needs, s, t)?;
+    grant_row(&mut kept.granted, &m.plant, usize::from(s), usize::from(t));
+    Ok(())
+}
+
+// A stop, by which the skid has no rights.
+fn stop_kept(m: &mut Monitor, kept: &mut Kept, s: u8) -> Result<(), Refusal>
+    requires passes_test_20 { intact m.old.plant m.old ≡ true }
+    requires keeps { Keeps m.old kept.old }
+    ensures does { Does m.old (stop s) (answer_of result) m.new }
+    ensures keeps { Keeps m.new kept.new }
+{
+    stop_at(&m.plant, &mut m.running, &mut m.chosen, s)?;
+    put_row(&mut kept.granted, usize::from(s), &[0; 8]);
+    Ok(())
+}
+
+// One request of a list. The arms are those of a request by itself (crate single), over what a list keeps: a trait for the three that differ would be
+// longer than they are.
+pub fn turn(m: &mut Monitor, kept: &mut Kept, r: Request) -> u8
+    requires passes_test_20 { intact m.old.plant m.old ≡ true }
+    requires keeps { Keeps m.old kept.old }
+    ensures does { Does m.old (call_by r.kind r.a r.b r.c r.d) result m.new }
+    ensures keeps { Keeps m.new kept.new }
+{
+    match Call::try_from(r) {
+        Ok(
+            Call::Set {
+                skid,
+                task,
+                requirement,
+                level,
+            },
+        ) => answer(set_at(&m.plant, &mut m.levels, skid, task, requirement, level)),
+        Ok(Call::Start { skid, task }) => answer(start_kept(m, kept, skid, task)),
+        Ok(Call::Stop { skid }) => answer(stop_kept(m, kept, skid)),
+        Ok(Call::Gate { skid, tank, right }) => gate_answer(gate_granted(
+            &m.plant,
+            &kept.granted,
+            &m.chosen,
+            skid,
+            tank,
+            right,
+        )),
+        Err(refusal) => refusal.number(),
     }
-    if kind == 0 {
-        return set_at(
-            counts,
-            &p.lattice_sizes,
-            &p.requirement_lattice,
-            levels,
-            a,
-            b,
-            c,
-            d,
-        );
-    }
-    if kind == 1 {
-        let number = start_at(p, levels, running, chosen, made, needs, a, b);
-        if number == 0 {
-            grant_row(granted, &p.task_rights, a as usize, b as usize);
-        }
-        return number;
-    }
-    let number = stop_at(counts, running, chosen, a);
-    if number == 0 {
-        put_row(granted, a as usize, [0u8; 8]);
-    }
-    number
 }

@@ -1,14 +1,9 @@
--- One set after the other loses its own level.
-use Rattle.std.proofs.Common.{rules}
-use Rattle.lattice.proofs.Rows.{strict_starts, strict_next, strict_ends}
+-- Each set has lost its own level.
+use Rattle.std.proofs.Common.{ℕ, ◌≡◌, rules, tests}
+use Rattle.base.specs.Bits.{bit}
+use Rattle.base.proofs.FromFn.{made_at}
+use Rattle.lattice.specs.Sets.{strictly}
 use Rattle.above.proofs.strict_sets.Goals as goal
 
-pub loop-i-init : goal.loop-i-init
-loop-i-init c = (search rules, strict_starts c.args.s.now)
-
-pub loop-i-preserved : goal.loop-i-preserved
-loop-i-preserved c =
-    (search rules, strict_next c.args.s.now c.loop-i.i c.loop-i.strict _ c.loop-i-test.true c.loop-i.invariant.1 c.without_one.ensures)
-
 pub returns : goal.returns
-returns c = strict_ends c.args.s.now c.loop-i.i c.loop-i.strict (search rules) c.loop-i.invariant.1
+returns c = λ i k l. made_at (λ i y. (k : ℕ) → bit y k ≡ strictly c.args.s.now i k) 0 _ _ (λ i y q d. search (rules, tests)) 16 c.from_fn.ensures.items i l k

@@ -3,9 +3,7 @@ use Rattle.std.proofs.Common.{◌≡◌, refl, arith}
 use Rattle.std.proofs.Math.ListN.{length-set}
 use Rattle.plant.proofs.Sound.{sound_law}
 use Rattle.plant.proofs.Valid.{valid}
-use Rattle.calls.proofs.Made.{none_made}
-use Rattle.calls.proofs.Grants.{none_granted}
-use Rattle.calls.proofs.Served.{still_intact, next_record, next_out, first_record, first_out}
+use Rattle.calls.proofs.Served.{still_intact, next_record, next_out, first_record, first_out, first_kept}
 use Rattle.batch.proofs.serve.Goals as goal
 
 pub loop-i-init : goal.loop-i-init
@@ -16,28 +14,26 @@ loop-i-init c =
       size = refl;
       state = first_record p c.args.bytes.now;
       answers = first_out p c.args.bytes.now c.args.out.now;
-      tables = none_made _;
-      grants = none_granted p.task_rights p.skids (valid p ((sound_law p).0 c.requires.plant_passes)).counts.skids_fit;
+      keeps = first_kept p c.new-kept.ensures (valid p ((sound_law p).0 c.requires.plant_passes)).counts.skids_fit;
     }
 
 pub turn-requires : goal.turn-requires
 turn-requires c =
     let v = c.loop-i.invariant in
-    record { passes_test_20 = still_intact c.args.p c.requires.plant_passes c.args.bytes.now c.loop-i.i v.state; tables = v.tables; granted = v.grants }
+    record { passes_test_20 = still_intact c.args.p c.requires.plant_passes c.args.bytes.now c.loop-i.i v.state; keeps = v.keeps }
 
 pub loop-i-preserved : goal.loop-i-preserved
 loop-i-preserved c =
     let p = c.args.p in
     let v = c.loop-i.invariant in
     let bytes = c.args.bytes.now in
-    let h = rw c.request_at-r.ensures at c.turn.ensures.does in
+    let h = rw c.request_at.ensures at c.turn.ensures.does in
     record {
       at_most = omega arith;
       size = simp length-set v.size;
       state = next_record p c.requires.plant_passes bytes c.loop-i.i v.state h.leaves;
       answers = next_out p c.requires.plant_passes bytes c.loop-i.i v.state c.args.out.now (omega arith) v.answers h.answers;
-      tables = c.turn.ensures.tables;
-      grants = c.turn.ensures.granted;
+      keeps = c.turn.ensures.keeps;
     }
 
 pub returns : goal.returns

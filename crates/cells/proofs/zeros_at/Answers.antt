@@ -1,9 +1,10 @@
--- A byte that is not zero, at the record that comes next, refuses the scan.
-use Rattle.std.proofs.Common.{sym, ◌∙◌}
-use Rattle.base.proofs.Scan.{all_stops}
-use Rattle.layout.specs.Layout.{zeros_at}
+-- The byte of each record is tested.
+use Rattle.std.proofs.Common.{rules, tests}
+use Rattle.base.proofs.AllAny.{all_in_range}
+use Rattle.layout.specs.Layout.{count, zeros_at}
+use Rattle.layout.specs.Section.{section_number}
 use Rattle.cells.proofs.zeros_at.Goals as goal
 
-pub returns-then-not-zero_cell : goal.returns-then-not-zero_cell
+pub returns : goal.returns
 unfolding zeros_at
-returns-then-not-zero_cell c = all_stops _ _ _ c.loop-k-test.true (sym c.zero_cell.ensures ∙ c.if-not-zero_cell.true)
+returns c = all_in_range _ (count c.args.file.header.file.now (section_number c.args.section)) c.all.ensures.ran (cc) (λ x b q k. search (rules, tests))

@@ -1,19 +1,25 @@
--- A gate that is not refused answers by the record.
-use Rattle.std.proofs.Common.{ap, not}
-use Rattle.calls.proofs.Steps.{gate_refused, held_asks, gate_by_record}
+-- A gate whose items are there answers by the record.
+use Rattle.std.proofs.Common.{◌≡◌, rules, refl, sym}
+use Rattle.refusal.specs.Number.{number_of, gate_answer_of}
+use Rattle.refusal.proofs.NotZero.{number_not_0}
+use Rattle.calls.proofs.Steps.{gate_refused, items_fit, gate_by_record, task_in}
 use Rattle.gates.proofs.gate_at.Goals as goal
 
-pub returns-then-not-gate_there : goal.returns-then-not-gate_there
-returns-then-not-gate_there c = λ m h. gate_refused _ _ _ c.gate_there.ensures h.passed (ap not c.if-not-gate_there.true) c.gate_refusal.ensures
+pub returns-in_err-check_gate : goal.returns-in_err-check_gate
+returns-in_err-check_gate c = λ m R.
+    let e : gate_answer_of c.from_residual.result ≡ number_of c.in_err-check_gate.field-0.0 = search rules in
+    rw e (gate_refused R.passed _ _ _ c.in_err-check_gate.ensures (number_not_0 c.in_err-check_gate.field-0.0))
 
 pub is_held-requires-clause-s_bound : goal.is_held-requires-clause-s_bound
-is_held-requires-clause-s_bound c = (held_asks _ _ c.args.r c.gate_there.ensures (ap not c.if-not-gate_there.false) c.requires).0
+is_held-requires-clause-s_bound c =
+    let k = items_fit c.requires.1.passed _ _ c.args.r c.in_ok-check_gate.ensures refl in
+    rw c.from.ensures k.0
 
 pub is_held-requires-clause-o_bound : goal.is_held-requires-clause-o_bound
-is_held-requires-clause-o_bound c = (held_asks _ _ c.args.r c.gate_there.ensures (ap not c.if-not-gate_there.false) c.requires).1
-
-pub returns-then-not-is_held : goal.returns-then-not-is_held
-returns-then-not-is_held c = gate_by_record _ _ _ c.gate_there.ensures (ap not c.if-not-gate_there.false) c.is_held.ensures (rw c.if-not-is_held.true)
+is_held-requires-clause-o_bound c =
+    let R = c.requires.1 in
+    let k = items_fit R.passed _ _ c.args.r c.in_ok-check_gate.ensures refl in
+    (k.1, rw c.from.ensures (task_in R.passed _ _ c.args.r c.in_ok-check_gate.ensures refl R))
 
 pub returns : goal.returns
-returns c = gate_by_record _ _ _ c.gate_there.ensures (ap not c.if-not-gate_there.false) c.is_held.ensures (rw c.if-not-is_held.false)
+returns c = λ m R. gate_by_record R.passed _ _ _ c.in_ok-check_gate.ensures refl R (rw (← c.from.ensures) c.is_held.ensures)

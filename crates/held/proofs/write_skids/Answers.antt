@@ -1,13 +1,12 @@
 -- Skid by skid.
-use Rattle.std.proofs.Common.{arith}
-use Rattle.base.proofs.Collected.{wrote_none, wrote_more, wrote_room}
+use Rattle.writer.proofs.Written.{writes_none, room_more, writes_more}
 use Rattle.held.proofs.write_skids.Goals as goal
 
 pub loop-s-init : goal.loop-s-init
-loop-s-init c = (omega arith, wrote_none _ _ _)
+loop-s-init c = writes_none _ _
 
-pub write_skid-end-requires-clause-s_in_bounds : goal.write_skid-end-requires-clause-s_in_bounds
-write_skid-end-requires-clause-s_in_bounds c = wrote_room _ _ _ c.loop-s.s c.args.skids c.loop-s-test.true c.requires.tanks_in_bounds c.loop-s.invariant.1
+pub write_skid-requires-clause-room : goal.write_skid-requires-clause-room
+write_skid-requires-clause-room c = room_more _ c.loop-s.s c.args.m.now.plant.skids c.loop-s-test.true c.requires.room c.loop-s.invariant
 
 pub loop-s-preserved : goal.loop-s-preserved
-loop-s-preserved c = (omega arith, wrote_more _ _ _ c.loop-s.s c.args.skids c.loop-s-test.true c.requires.tanks_in_bounds c.loop-s.invariant.1 c.write_skid-end.ensures)
+loop-s-preserved c = writes_more _ c.loop-s.s c.args.m.now.plant.skids c.loop-s-test.true c.requires.room c.loop-s.invariant c.write_skid.ensures

@@ -1,15 +1,13 @@
 -- Right by right, in the order of `Right::all`.
-use Rattle.std.proofs.Common.{arith}
-use Rattle.base.proofs.Collected.{wrote_none, wrote_more, wrote_room}
+use Rattle.writer.proofs.Written.{writes_none, room_more, writes_more}
 use Rattle.held.proofs.write_tank.Goals as goal
 
-pub loop-i-init : goal.loop-i-init
-loop-i-init c = (omega arith, wrote_none _ _ _)
+pub loop-r-init : goal.loop-r-init
+loop-r-init c = writes_none _ _
 
-pub write_right-end-requires-clause-r_in_bounds : goal.write_right-end-requires-clause-r_in_bounds
-write_right-end-requires-clause-r_in_bounds c =
-    rw c.all-numbers.ensures (wrote_room _ _ _ c.loop-i.i 3 c.loop-i-test.true c.requires.o_in_bounds c.loop-i.invariant.1)
+pub write_right-requires-clause-room : goal.write_right-requires-clause-room
+write_right-requires-clause-room c = rw c.all-r-items.ensures (room_more _ c.loop-r.r-index 3 c.loop-r-test.true c.requires.room c.loop-r.invariant)
 
-pub loop-i-preserved : goal.loop-i-preserved
-loop-i-preserved c =
-    (omega arith, wrote_more _ _ _ c.loop-i.i 3 c.loop-i-test.true c.requires.o_in_bounds c.loop-i.invariant.1 (rw c.all-numbers.ensures at c.write_right-end.ensures))
+pub loop-r-preserved : goal.loop-r-preserved
+loop-r-preserved c =
+    writes_more _ c.loop-r.r-index 3 c.loop-r-test.true c.requires.room c.loop-r.invariant (rw c.all-r-items.ensures at c.write_right.ensures)

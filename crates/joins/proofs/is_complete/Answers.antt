@@ -1,45 +1,33 @@
 -- Each table is full where each pair has a join, and the turned sets' joins are the meets.
-use Rattle.std.proofs.Common.{◌≡◌, List, ℕ, sym, ap, subst, ◌∙◌}
+use Rattle.std.proofs.Common.{◌≡◌, ◌≤◌, List, ℕ, Bool, ◌∙◌}
 use Rattle.base.proofs.Both.{both_on, both_off}
 use Rattle.lattice.specs.Levels.{joined, complete}
-use Rattle.lattice.specs.Sets.{OrderedSets, Turned, under_in, turned_sets}
-use Rattle.lattice.proofs.Meets.{turned_ordered, turned_agrees, turned_joined}
+use Rattle.lattice.specs.Sets.{under_in}
+use Rattle.lattice.specs.Table.{join_table, table_full}
+use Rattle.lattice.proofs.Meets.{turned_joined}
 use Rattle.lattice.proofs.Tables.{table_joined}
 use Rattle.joins.proofs.is_complete.Goals as goal
 
--- what both tables ask: t is the turned sets of s
-module _ (n : ℕ) (s t : List ℕ) (w : OrderedSets n s) (e : t ≡ turned_sets s) where
-  turned_of : Turned n s t
-  turned_of i j p q = ap (λ (x : List ℕ). under_in x i j) e ∙ turned_agrees s n w.clean i j p q
+-- r is what the test of the table t returned, which is the table of joins of the n levels of the sets s
+found : (n : ℕ) (s : List ℕ) {r : Bool} {t : List (List ℕ)} {m k : ℕ} {x : List ℕ} → n ≤ 16 → m ≡ n → k ≡ n → x ≡ s → r ≡ table_full m t → t ≡ join_table k (under_in x) → r ≡ joined n (under_in s)
+found n s b e f g p q = table_joined n (under_in s) b (rw e at p) (rw (f, g) at q)
 
-  ordered_of : OrderedSets n t
-  ordered_of = subst (λ (x : List ℕ). OrderedSets n x) (sym e) (turned_ordered s n w)
-
-  turned_back : Turned n t s
-  turned_back i j p q = sym (turned_of j i q p)
-
-pub joins-least_above-requires-clause-turned : goal.joins-least_above-requires-clause-turned
-joins-least_above-requires-clause-turned c = turned_of _ _ _ c.requires c.turned-t.ensures
-
-pub joins-greatest_under-requires-clause-ordered_sets : goal.joins-greatest_under-requires-clause-ordered_sets
-joins-greatest_under-requires-clause-ordered_sets c = ordered_of _ _ _ c.requires c.turned-t.ensures
-
-pub joins-greatest_under-requires-clause-turned : goal.joins-greatest_under-requires-clause-turned
-joins-greatest_under-requires-clause-turned c = turned_back _ _ _ c.requires c.turned-t.ensures
-
-pub returns-then-full : goal.returns-then-full
+pub returns-then-is_full : goal.returns-then-is_full
 unfolding complete
-returns-then-full c =
-    let n = c.args.n in
+returns-then-is_full c =
+    let l = c.args.lattice.now in
     let y = c.requires.clean in
+    let levels = c.of-levels.ensures in
+    let other = c.turned.ensures in
     both_on _ _
-    (table_joined n _ y.at_most_16 c.full.ensures c.joins-least_above.ensures)
-    c.if-full.true
-    (table_joined n _ y.at_most_16 c.full-then-full.ensures c.joins-greatest_under.ensures
-    ∙ ap (λ (t : List ℕ). joined n (under_in t)) c.turned-t.ensures
-    ∙ turned_joined _ n y)
+    (found l.n l.sets y.at_most_16 levels.count levels.count levels.above c.is_full.ensures c.table-joins.ensures)
+    c.if-is_full.true
+    (found l.n _ y.at_most_16 levels.count (other.count ∙ levels.count) (other.above ∙ levels.under) c.is_full-then-is_full.ensures c.table-meets.ensures
+    ∙ turned_joined l.sets l.n y)
 
-pub returns-else-full : goal.returns-else-full
+pub returns-else-is_full : goal.returns-else-is_full
 unfolding complete
-returns-else-full c =
-    both_off _ _ (table_joined c.args.n _ c.requires.clean.at_most_16 c.full.ensures c.joins-least_above.ensures) c.if-full.false
+returns-else-is_full c =
+    let l = c.args.lattice.now in
+    let levels = c.of-levels.ensures in
+    both_off _ _ (found l.n l.sets c.requires.clean.at_most_16 levels.count levels.count levels.above c.is_full.ensures c.table-joins.ensures) c.if-is_full.false

@@ -10,10 +10,13 @@ use Rattle.levels.proofs.set_clear.Goals as goal
 empty_set : (n x : ℕ) → eqb x 0 ≡ eqb x 0 && eqb (x / 2 ^ n) 0
 empty_set n x = split (eqb x 0) (λ e. rw (eqb-true x 0 e, zero-div (2 ^ n))) (λ e. rw e)
 
-pub returns-then-n-i : goal.returns-then-n-i
+pub returns-then-i-n : goal.returns-then-i-n
 unfolding none_from
-returns-then-n-i c = simp (le-leb _ _ c.if-n-i.true, c.wider-x.ensures) (empty_set c.args.n (get_or c.args.s.now c.args.i 0))
+returns-then-i-n c = let e = c.from-n.ensures in simp (e, c.from-x.ensures, lt-leb _ _ (rw e at c.if-i-n.true))
 
-pub returns : goal.returns
+pub returns-else-i-n : goal.returns-else-i-n
 unfolding none_from
-returns c = simp (lt-leb _ _ c.if-n-i.false, c.wider-x.ensures)
+returns-else-i-n c =
+    let e = c.from-n.ensures in
+    let l = c.args.lattice.now in
+    simp (le-leb _ _ (rw e at c.if-i-n.false), c.from-x.ensures) (empty_set l.n (get_or l.sets c.args.i 0))

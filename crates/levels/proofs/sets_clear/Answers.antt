@@ -1,13 +1,7 @@
--- The start and the step of the loop and the way out of it, by the laws of a scan.
-use Rattle.std.proofs.Common.{rules}
-use Rattle.base.proofs.Scan.{scan}
+-- Each set is tested.
+use Rattle.std.proofs.Common.{rules, tests}
+use Rattle.base.proofs.AllAny.{all_in_range}
 use Rattle.levels.proofs.sets_clear.Goals as goal
 
-pub loop-i-init : goal.loop-i-init
-loop-i-init c = search (rules, scan)
-
-pub returns-then-not-set_clear : goal.returns-then-not-set_clear
-returns-then-not-set_clear c = search (rules, scan)
-
-pub loop-i-preserved : goal.loop-i-preserved
-loop-i-preserved c = search (rules, scan)
+pub returns : goal.returns
+returns c = all_in_range _ 16 c.all.ensures.ran (cc) (λ x b q k. search (rules, tests))

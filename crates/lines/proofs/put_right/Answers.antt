@@ -1,9 +1,9 @@
--- The line's first word, then the line of the two others: `others_wrote`.
+-- The skid with its space, then the line of the tank and the right.
 use Rattle.std.proofs.Common.{[], ◌∷◌}
 use Rattle.printing.specs.Decimal.{decimal}
-use Rattle.printing.proofs.Lines.{others_wrote}
+use Rattle.text.proofs.Lines.{line_written}
 use Rattle.lines.proofs.put_right.Goals as goal
 
 pub returns : goal.returns
 returns c =
-    others_wrote (decimal c.args.skid) (decimal c.args.tank) (decimal c.args.right ∷ []) c.args.text.now c.args.at c.requires c.put_field-next.ensures c.put_pair.ensures
+    line_written (decimal c.args.skid) (decimal c.args.tank) (decimal c.args.right ∷ []) c.requires (rw c.from.ensures at c.put_field.ensures) (rw c.from-2.ensures at c.put_pair.ensures)

@@ -7,4 +7,4 @@ use Rattle.parts.proofs.all_apart.Goals as goal
 
 pub returns : goal.returns
 unfolding all_apart
-returns c = all_tested (λ (k : ℕ). all_below (apart c.args.file.now k) k) _ _ _ c.all.ensures.ran (cc) (λ x b q k. search (rules, tests))
+returns c = all_tested (λ (k : ℕ). all_below (apart c.args.header.file.now k) k) _ _ _ c.all.ensures.ran (cc) (λ x b q k. search (rules, tests))

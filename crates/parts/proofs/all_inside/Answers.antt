@@ -6,4 +6,4 @@ use Rattle.parts.proofs.all_inside.Goals as goal
 
 pub returns : goal.returns
 unfolding all_inside
-returns c = all_tested (inside c.args.file.now) _ _ _ c.all.ensures.ran (cc) (λ x b q k. search (rules, tests))
+returns c = all_tested (inside c.args.header.file.now) _ _ _ c.all.ensures.ran (cc) (λ x b q k. search (rules, tests))

@@ -5,21 +5,24 @@ use Rattle.opening.specs.Reading.{lattice_zeros}
 use Rattle.opening.proofs.Sequence.{early_number, late_number, late_plant}
 use Rattle.reader.proofs.read.Goals as goal
 
-pub returns-in_err-check_header-clause-refused : goal.returns-in_err-check_header-clause-refused
-returns-in_err-check_header-clause-refused c = handed_on _ _ c.from_residual.ensures ∙ early_number _ c.in_err-check_header.ensures (not_0 _)
+pub returns-in_err-plant_file-clause-refused : goal.returns-in_err-plant_file-clause-refused
+returns-in_err-plant_file-clause-refused c = handed_on _ _ c.from_residual.ensures ∙ early_number _ c.in_err-plant_file.ensures.number (not_0 _)
 
 pub returns-in_err-check_plant-clause-refused : goal.returns-in_err-check_plant-clause-refused
 unfolding lattice_zeros
 returns-in_err-check_plant-clause-refused c =
+    let h = c.in_ok-plant_file.ensures in
     handed_on _ _ c.from_residual-in_err-check_plant.ensures
-    ∙ late_number _ c.in_ok-check_header.ensures refl c.plant_from-plant.ensures c.zeros_in.ensures c.other_zeros.ensures c.in_err-check_plant.ensures
+    ∙ late_number _ h.number h.same c.plant_from-plant.ensures c.zeros_at-lattice_zeros.ensures c.other_zeros.ensures c.in_err-check_plant.ensures
 
 pub returns-clause-refused : goal.returns-clause-refused
 unfolding lattice_zeros
 returns-clause-refused c =
-    late_number _ c.in_ok-check_header.ensures refl c.plant_from-plant.ensures c.zeros_in.ensures c.other_zeros.ensures c.in_ok-check_plant.ensures
+    let h = c.in_ok-plant_file.ensures in
+    late_number _ h.number h.same c.plant_from-plant.ensures c.zeros_at-lattice_zeros.ensures c.other_zeros.ensures c.in_ok-check_plant.ensures
 
 pub returns-clause-plant : goal.returns-clause-plant
 unfolding lattice_zeros
 returns-clause-plant c =
-    late_plant _ c.in_ok-check_header.ensures refl c.plant_from-plant.ensures c.zeros_in.ensures c.other_zeros.ensures c.in_ok-check_plant.ensures refl
+    let h = c.in_ok-plant_file.ensures in
+    late_plant _ h.number h.same c.plant_from-plant.ensures c.zeros_at-lattice_zeros.ensures c.other_zeros.ensures c.in_ok-check_plant.ensures refl

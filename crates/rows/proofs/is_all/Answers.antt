@@ -8,5 +8,5 @@ use Rattle.rows.proofs.is_all.Goals as goal
 
 pub returns : goal.returns
 returns c e =
-    all_bits _ _ (ap (λ (m : ℕ). m + 1) (sym c.wider.ensures) ∙ eqb-true _ _ e
+    all_bits _ _ (ap (λ (m : ℕ). m + 1) (sym c.from.ensures) ∙ eqb-true _ _ e
     ∙ shl_exact 1 _ 32 (let b : 1 < 2 = omega arith in b) (omega arith) ∙ one-mul _)

@@ -1,38 +1,41 @@
 -- The early tests, and what is found in the choices searched for, are the rules'.
+use Rattle.std.proofs.Common.{refl}
 use native.Mathlib.Nat.{lt_of_lt_of_le}
-use Rattle.calls.proofs.Own.{own_search, own_store}
+use Rattle.refusal.proofs.NotZero.{handed_on, not_0}
+use Rattle.calls.proofs.Own.{own_search, own_late}
 use Rattle.calls.proofs.Ready.{plant_valid}
 use Rattle.calls.proofs.Start.{passed, refused_early}
 use Rattle.calls.proofs.Store.{done_late}
 use Rattle.single.proofs.start_alone.Goals as goal
 
-pub returns-then-early-ne0 : goal.returns-then-early-ne0
-returns-then-early-ne0 c = refused_early _ c.requires c.args.s c.args.t c.start_early-early.ensures c.if-early-ne0.true
+pub start_early-requires : goal.start_early-requires
+start_early-requires c = let f = (plant_valid _ c.requires).counts in (f.skids_fit, f.tasks_fit)
 
-pub start_early-early-requires : goal.start_early-early-requires
-start_early-early-requires c = let f = (plant_valid _ c.requires).counts in (f.skids_fit, f.tasks_fit)
+pub returns-in_err-start_early : goal.returns-in_err-start_early
+returns-in_err-start_early c =
+    rw (handed_on _ _ c.from_residual.ensures) (refused_early _ c.requires c.args.s c.args.t c.in_err-start_early.ensures (not_0 c.in_err-start_early.field-0.0))
 
 pub need_of-need-requires : goal.need_of-need-requires
 need_of-need-requires c =
     let f = (plant_valid _ c.requires).counts in
-    let there = passed _ _ _ _ c.args.s c.args.t c.start_early-early.ensures c.if-early-ne0.false in
-    (lt_of_lt_of_le there.1 f.tasks_fit, f.groups_fit)
+    let there = passed _ _ _ _ c.args.s c.args.t c.in_ok-start_early.ensures refl in
+    rw c.from.ensures (lt_of_lt_of_le there.1 f.tasks_fit, f.groups_fit)
 
 pub put_choices_for-requires-clause-reads : goal.put_choices_for-requires-clause-reads
 put_choices_for-requires-clause-reads c =
-    let there = passed _ _ _ _ c.args.s c.args.t c.start_early-early.ensures c.if-early-ne0.false in
-    own_search _ c.requires c.args.s c.args.t there
+    let there = passed _ _ _ _ c.args.s c.args.t c.in_ok-start_early.ensures refl in
+    rw (c.from-2.ensures, c.from-3.ensures) (own_search _ c.requires c.args.s c.args.t there)
 
-pub start_late-requires : goal.start_late-requires
-start_late-requires c =
-    let there = passed _ _ _ _ c.args.s c.args.t c.start_early-early.ensures c.if-early-ne0.false in
-    let needed = c.need_of-need.ensures in
-    (_, (own_store _ c.requires c.args.s c.args.t there c.put_choices_for.ensures, needed))
+pub put_choices_for-requires-clause-need : goal.put_choices_for-requires-clause-need
+put_choices_for-requires-clause-need c = rw (c.from-3.ensures, ← c.from.ensures) c.need_of-need.ensures
+
+pub start_late-requires-clause-reads : goal.start_late-requires-clause-reads
+start_late-requires-clause-reads c =
+    let there = passed _ _ _ _ c.args.s c.args.t c.in_ok-start_early.ensures refl in
+    own_late _ c.requires c.args.s c.args.t there (rw (c.from-2.ensures, c.from-3.ensures) at c.put_choices_for.ensures)
+
+pub start_late-requires-clause-need : goal.start_late-requires-clause-need
+start_late-requires-clause-need c = rw (← c.from.ensures) c.need_of-need.ensures
 
 pub returns : goal.returns
-returns c =
-    let e = c.start_early-early.ensures in
-    let there = passed _ _ _ _ c.args.s c.args.t e c.if-early-ne0.false in
-    let needed = c.need_of-need.ensures in
-    done_late _ c.requires c.args.s c.args.t e c.if-early-ne0.false (c.start_late.ensures _
-    (own_store _ c.requires c.args.s c.args.t there c.put_choices_for.ensures) needed)
+returns c = done_late _ c.requires c.args.s c.args.t c.in_ok-start_early.ensures refl c.start_late.ensures

@@ -1,10 +1,9 @@
--- The loop keeps its invariant by the laws of rows.
-use Rattle.std.proofs.Common.{rules}
-use Rattle.calls.proofs.Rows.{rows}
+-- The part of the rights that is copied is the task's.
+use Rattle.std.proofs.Common.{◌∙◌, ◌*◌, arith}
+use Rattle.std.proofs.lemmas.List.{places}
+use Rattle.calls.proofs.Rows.{row_same}
+use Rattle.calls.specs.Work.{rights_in}
 use Rattle.steps.proofs.grant_row.Goals as goal
 
-pub loop-g-init : goal.loop-g-init
-loop-g-init c = search (rules, rows)
-
-pub loop-g-preserved : goal.loop-g-preserved
-loop-g-preserved c = search (rules, rows)
+pub returns : goal.returns
+returns c = c.put_row.ensures ∙ row_same c.args.granted.now (c.args.s * 8) _ (rights_in c.args.p.now.task_rights c.args.t) 8 (λ g l. grind (arith, places))

@@ -1,10 +1,7 @@
--- The loop keeps its invariant by the laws of rows.
-use Rattle.std.proofs.Common.{rules}
-use Rattle.calls.proofs.Rows.{rows}
+-- One copy stores the row.
+use Rattle.std.proofs.Common.{arith, ◌*◌}
+use Rattle.calls.proofs.Rows.{row_copied}
 use Rattle.steps.proofs.put_row.Goals as goal
 
-pub loop-g-init : goal.loop-g-init
-loop-g-init c = search (rules, rows)
-
-pub loop-g-preserved : goal.loop-g-preserved
-loop-g-preserved c = search (rules, rows)
+pub returns : goal.returns
+returns c = rw c.copy_from_slice.ensures.after (row_copied c.args.rows.now c.args.row.now (c.args.s * 8) c.requires.eight (omega arith))

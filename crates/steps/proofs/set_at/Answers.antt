@@ -1,46 +1,44 @@
--- Each test is the definition's, in its order, and the level goes to its place.
-use Rattle.std.proofs.Common.{refl, arith, [], ◌∷◌, nat_le, get_or}
-use borrow.Author.Tests.{le-leb, lt-leb, leb-false}
-use Rattle.base.specs.Chain.{◌gives◌}
-use Rattle.calls.proofs.Steps.{skids_fit, tasks_fit, requirements_fit, lattice_at_lem, set_does}
-use Rattle.calls.proofs.There.{missing_number, missing_some, none_missing}
+-- The tests are the rules', in their order, and the level goes to its place.
+use Rattle.std.proofs.Common.{◌≡◌, rules, refl, arith}
+use borrow.Author.Tests.{lt-leb, le-leb}
+use Rattle.refusal.specs.Number.{number_of, answer_of}
+use Rattle.refusal.proofs.NotZero.{number_not_0}
+use Rattle.calls.proofs.Steps.{plant_fits, set_does, set_missing, set_there}
 use Rattle.steps.proofs.set_at.Goals as goal
 
-pub returns-then-no_skid-no_task : goal.returns-then-no_skid-no_task
-returns-then-no_skid-no_task c =
-    let e = c.if-no_skid-no_task.true in
-    let m = c.args in
-    let l = nat_le (get_or m.sizes.now (get_or m.lattice.now m.d 0) 0) m.v gives 24 ∷ [] in
-    let f = missing_number (nat_le m.counts.skids m.s) (nat_le m.counts.tasks m.t) (nat_le m.counts.requirements m.d) 22 23 l e c.missing.ensures in
-    λ r h. set_does h m.s m.t m.d m.v f (rw (f, missing_some (nat_le m.counts.skids m.s) (nat_le m.counts.tasks m.t) (nat_le m.counts.requirements m.d) 22 23 l e refl refl))
+pub returns-in_err-check_items : goal.returns-in_err-check_items
+returns-in_err-check_items c = λ m R.
+    let e : answer_of c.from_residual.result ≡ number_of c.in_err-check_items.field-0.0 = search rules in
+    rw e (set_missing R _ _ _ c.args.v c.in_err-check_items.ensures (number_not_0 c.in_err-check_items.field-0.0))
 
-pub bounds-lattice-d : goal.bounds-lattice-d
-bounds-lattice-d c =
-    let m = c.args in
-    let k = none_missing (nat_le m.counts.skids m.s) (nat_le m.counts.tasks m.t) (nat_le m.counts.requirements m.d) c.if-no_skid-no_task.false in
-    omega (arith, requirements_fit c.requires.1.passed, leb-false _ _ k.1.1)
+pub bounds-p-from : goal.bounds-p-from
+bounds-p-from c =
+    let R = c.requires.1 in
+    let k = set_there R _ _ _ c.args.v c.in_ok-check_items.ensures refl in
+    omega (arith, (plant_fits R.passed).counts.requirements_fit)
 
-pub bounds-sizes-l : goal.bounds-sizes-l
-bounds-sizes-l c =
-    let m = c.args in
-    let k = none_missing (nat_le m.counts.skids m.s) (nat_le m.counts.tasks m.t) (nat_le m.counts.requirements m.d) c.if-no_skid-no_task.false in
-    rw c.wide-l.ensures (lattice_at_lem c.requires.1 m.d (leb-false _ _ k.1.1))
+pub bounds-p-l : goal.bounds-p-l
+bounds-p-l c =
+    let R = c.requires.1 in
+    let k = set_there R _ _ _ c.args.v c.in_ok-check_items.ensures refl in
+    let w = plant_fits R.passed in
+    omega (arith, rw c.from.ensures at c.from-l.ensures, w.lattice_in c.args.d k.1.1, w.counts.lattices_fit)
 
-pub returns-then-sizes-l : goal.returns-then-sizes-l
-returns-then-sizes-l c =
-    let m = c.args in
-    let k = none_missing (nat_le m.counts.skids m.s) (nat_le m.counts.tasks m.t) (nat_le m.counts.requirements m.d) c.if-no_skid-no_task.false in
-    λ r h. set_does h m.s m.t m.d m.v (simp (k.0, k.1.0, k.1.1, le-leb _ _ (rw c.wide-l.ensures at c.if-sizes-l.true))) refl
+pub returns-then-p-l : goal.returns-then-p-l
+returns-then-p-l c = λ m R.
+    let k = set_there R _ _ _ c.args.v c.in_ok-check_items.ensures refl in
+    let h = rw (c.from-l.ensures, c.from.ensures) at c.if-p-l.true in
+    set_does R _ _ _ _ (simp (lt-leb _ _ k.0, lt-leb _ _ k.1.0, lt-leb _ _ k.1.1, le-leb _ _ h)) refl
 
-pub bounds-levels-s : goal.bounds-levels-s
-bounds-levels-s c =
-    let m = c.args in
-    let k = none_missing (nat_le m.counts.skids m.s) (nat_le m.counts.tasks m.t) (nat_le m.counts.requirements m.d) c.if-no_skid-no_task.false in
-    let p = c.requires.1.passed in
-    omega (arith, leb-false _ _ k.0, leb-false _ _ k.1.0, leb-false _ _ k.1.1, skids_fit p, tasks_fit p, requirements_fit p)
+pub bounds-levels-from : goal.bounds-levels-from
+bounds-levels-from c =
+    let R = c.requires.1 in
+    let k = set_there R _ _ _ c.args.v c.in_ok-check_items.ensures refl in
+    let w = (plant_fits R.passed).counts in
+    omega (arith, w.skids_fit, w.tasks_fit, w.requirements_fit)
 
 pub returns : goal.returns
-returns c =
-    let m = c.args in
-    let k = none_missing (nat_le m.counts.skids m.s) (nat_le m.counts.tasks m.t) (nat_le m.counts.requirements m.d) c.if-no_skid-no_task.false in
-    λ r h. set_does h m.s m.t m.d m.v (simp (k.0, k.1.0, k.1.1, lt-leb _ _ (rw c.wide-l.ensures at c.if-sizes-l.false))) refl
+returns c = λ m R.
+    let k = set_there R _ _ _ c.args.v c.in_ok-check_items.ensures refl in
+    let h = rw (c.from-l.ensures, c.from.ensures) at c.if-p-l.false in
+    set_does R _ _ _ _ (simp (lt-leb _ _ k.0, lt-leb _ _ k.1.0, lt-leb _ _ k.1.1, lt-leb _ _ h)) (rw (c.from-2.ensures, c.from-3.ensures, c.from-4.ensures))

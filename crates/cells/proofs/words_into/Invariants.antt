@@ -1,8 +1,0 @@
--- The cells below the one that comes next are filled.
-use Rattle.std.proofs.Common.{◌≡◌, ℕ}
-use Rattle.base.specs.Fill.{fill}
-use Rattle.layout.specs.Layout.{word_at, place}
-use Rattle.cells.proofs.words_into.Given as goal
-
-abbrev pub invariant-loop-k : goal.invariant-loop-k
-invariant-loop-k l = l.out ≡ fill (λ (i : ℕ). word_at l.s (place l.w l.from l.run 2 i)) l.initial.out l.k

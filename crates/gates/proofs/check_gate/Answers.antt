@@ -1,0 +1,7 @@
+-- The three tests are the rules'.
+use Rattle.std.proofs.Common.{sym, ◌∙◌}
+use Rattle.calls.proofs.Steps.{gate_number}
+use Rattle.gates.proofs.check_gate.Goals as goal
+
+pub returns : goal.returns
+returns c = λ vs. c.check_items.ensures ∙ sym (gate_number _ _ _ _ vs c.valid.ensures)
