@@ -69,7 +69,8 @@ pub struct Field {
     pub run: usize,
 }
 
-// Where cell k of the records of a part stands, and that it lies within them. Every reader of a section takes its bounds from here.
+// Where cell k of the records of a part stands, and that it lies within them. Every reader of a section takes its bounds from here. That a field lies
+// within a part is a fact of both, so each reader has it as a clause.
 fn place_of<T: Cell>(part: Part, field: Field, k: usize) -> usize
     requires within { (0 < field.run) × (field.from + field.run * T.WIDTH ≤ part.width) }
     requires in_range { k < part.count * field.run }

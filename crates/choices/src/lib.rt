@@ -1,4 +1,5 @@
 // The table of the choices for each group and level.
+// The length of the table is a clause, since the clauses speak of it as a list.
 #![tactic(auto)]
 
 ghost use Rattle.std.specs.Prelude.{◌≡◌, ◌<◌, length};

@@ -30,6 +30,7 @@ pub fn fresh_monitor(plant: Plant) -> Monitor
     monitor_with(plant, NONE)
 }
 
+// Written out: a derived `Default` promises of each field by itself that it is zero, and a proof would have all fifteen to put together.
 fn no_plant() -> Plant
     ensures { result ≡ no_plant }
 {

@@ -1,5 +1,6 @@
 // The work of a gate on the parts of a record that are lent to it: by the record, or in a list by the rights granted.
 // The bound of an index is a clause and no type: a type would be made of a number at each call and taken apart at each array.
+// The parts of a record are lent one by one, since a list reads the rights granted in place of the running tasks.
 #![tactic(auto)]
 
 ghost use Rattle.std.specs.Prelude.{◌≡◌, true, ℕ, ◌<◌, get_or};

@@ -1,5 +1,6 @@
 // The levels for which a tank is nearest, as sets.
 // The bound of an index is a clause and no type: a type would be made of a number at each call and taken apart at each array.
+// What is known of the tanks (`TanksThere`) is a clause and no type: a start knows more of the plant than a table asks.
 #![tactic(auto)]
 
 ghost use Rattle.std.specs.Prelude.{◌≡◌, not, ◌&&◌, ℕ, ◌<◌, get_or};

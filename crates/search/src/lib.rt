@@ -1,5 +1,6 @@
 // The choices of a start by itself: for each group that its task needs the tank under the skid's level, and no others.
 // The bound of an index is a clause and no type: a type would be made of a number at each call and taken apart at each array.
+// What `places` has of the tanks is a clause of each step, since it is a fact of the set and of the plant together.
 #![tactic(auto)]
 
 ghost use Rattle.std.specs.Prelude.{◌≡◌, ◌<◌, length, unwrap_or};

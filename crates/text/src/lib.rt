@@ -1,4 +1,5 @@
 // Numbers and lines of numbers, written as text.
+// That a number has at most five digits is a clause: with a type for it, each count would be made one first.
 #![tactic(auto, using(writer::proofs::Written::room_rest))]
 
 ghost use Rattle.std.specs.Prelude.{[], ◌∷◌, ◌++◌, ◌<◌};

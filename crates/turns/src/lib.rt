@@ -1,6 +1,7 @@
 // One request of a list, on a record that has passed test 20. The list keeps beside the record what the next request reads. Whoever makes a request
 // knows that the record passes: it is the fresh one of an accepted plant, and no call makes it fail.
 // That a record passes test 20 is a clause and no type: C holds records that do not pass, and each step would take the type apart.
+// That what a list keeps fits its record (`Keeps`) is a fact of both, which neither type can have alone.
 #![tactic(auto)]
 
 ghost use Rattle.std.specs.Prelude.{◌≡◌, true};
