@@ -10,6 +10,7 @@ use lib.Dec.{eqb, ltb}
 use lib.ListN.{get_or, set, replicate, get_or-replicate, length-replicate, length-set}
 use lib.Seq.{get_or-set_same, get_or-set_other}
 use borrow.Author.Tests.{eq-eqb, ne_eqb, ltb-true, lt-ltb, le-ltb}
+use Rattle.std.specs.Prelude.{None, Some}
 use Rattle.base.specs.Below.{any_below}
 use Rattle.base.specs.Bits.{bit}
 use Rattle.base.proofs.Logic.{and_true, or_right}
@@ -25,15 +26,15 @@ use Rattle.calls.specs.Work.{needs_in, NeedIn, NeedOf, Needed, wish_known, wish_
 use Rattle.calls.specs.Start.{NeedsAt}
 use Rattle.calls.proofs.Ready.{plant_valid, wishes_known}
 
-pub none_made : (P : Plant) → Tables P (replicate 128 254) (replicate 16 0)
+pub none_made : (P : Plant) → Tables P None (replicate 16 0)
 none_made P = record {
-  table = record { size = length-replicate {A = ℕ} 128 254; right = λ n. absurd (n (get_or-replicate {A = ℕ} 128 0 254 0 (omega arith))) };
+  table = tt;
   tasks = record { size = length-replicate {A = ℕ} 16 0; right = λ t l n. absurd (n (get_or-replicate {A = ℕ} 16 t 0 0 l)) };
 }
 
 -- and once it is made
-pub all_made : {P : Plant} {made needs : List ℕ} → ChoicesIn P made → Needed P needs → Tables P made needs
-all_made c n = record { table = record { size = c.size; right = λ x. c }; tasks = n }
+pub all_made : {P : Plant} {made needs : List ℕ} → ChoicesIn P made → Needed P needs → Tables P (Some made) needs
+all_made c n = record { table = c; tasks = n }
 
 -- the set of a task, group by group
 module _ (rights : List ℕ) (t : ℕ) where

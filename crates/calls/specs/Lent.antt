@@ -1,5 +1,5 @@
 -- What a call on a record promises, and what is read of a record by a function to which only a few of its arrays and numbers are lent.
-use Rattle.std.specs.Prelude.{◌≡◌, ℕ, true, cond, List, eqb}
+use Rattle.std.specs.Prelude.{◌≡◌, ℕ, true, cond, List, Option, eqb}
 use Rattle.plant.specs.declared.Plant.{Plant}
 use Rattle.choice.specs.Table.{Tabled}
 use Rattle.rules.specs.declared.Monitor.{Monitor}
@@ -48,7 +48,7 @@ pub record GrantReads (P : Plant) (granted chosen : List ℕ) (m : Monitor) : Ty
 
 -- What a list remembers of its plant from one request to the next: the table of choices, made at the first start that passes 26, and the groups
 -- that each task needs.
-pub record Tables (P : Plant) (made needs : List ℕ) : Type 0 where
+pub record Tables (P : Plant) (made : Option (List ℕ)) (needs : List ℕ) : Type 0 where
   pub table : Tabled P made
   pub tasks : Needed P needs
 

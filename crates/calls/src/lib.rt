@@ -120,8 +120,8 @@ impl From<Call> for Request {
 // run.
 #[derive(Clone, Copy)]
 pub struct Kept {
-    // 254 in its first entry until a start makes it.
-    pub made: [u8; 128],
+    // None until a start makes it.
+    pub made: Option<[u8; 128]>,
     // The empty set until a start of the task makes it.
     pub needs: [u16; 16],
     pub granted: [u8; 64],
@@ -133,7 +133,7 @@ impl Kept {
         ensures { (P : Plant) → P.skids ≤ 8 → Keeps (fresh P) result }
     {
         Kept {
-            made: [254; 128],
+            made: None,
             needs: [0; 16],
             granted: [0; 64],
         }

@@ -3,7 +3,7 @@
 #![tactic(auto)]
 
 ghost use Rattle.std.specs.Prelude.{◌≡◌, ◌<◌, length};
-ghost use Rattle.choice.specs.Table.{Linked, ChoicesIn, Tabled, Put};
+ghost use Rattle.choice.specs.Table.{Linked, ChoicesIn, Put};
 
 use nearest::{nearest_for, places_of};
 use plant::Plant;
@@ -20,23 +20,20 @@ fn put_choices(made: &mut [u8; 128], g: usize, near: u16, o: u8)
     }
 }
 
-// The choice from each group under each level, at g * 16 + v: 255 where no tank of the group is at or under the level. It is made where it is
-// not made yet: entry 0 is 254 until then, which no choice is. The tanks go from the highest number down, so that the lowest is written last.
-pub fn make_choices(p: &Plant, made: &mut [u8; 128])
-    requires linked { Linked p.now }
-    requires tabled { Tabled p.now made.old }
-    ensures { ChoicesIn p.now made.new }
+// The choice from each group under each level, at g * 16 + v: 255 where no tank of the group is at or under the level. The tanks go from the highest
+// number down, so that the lowest is written last.
+pub fn make_choices(p: &Plant) -> [u8; 128]
+    requires { Linked p.now }
+    ensures { ChoicesIn p.now result }
 {
-    if made[0] != 254 {
-        return;
-    }
     let places = places_of(p);
-    *made = [255u8; 128];
+    let mut made = [255u8; 128];
     for o in (0..p.tanks).rev() {
         let i = usize::from(o);
         let g = usize::from(p.tank_group[i]);
         let l = usize::from(p.requirement_lattice[usize::from(p.group_requirement[g])]);
         let near = nearest_for(&p.lattice_sets, l, places[g], usize::from(p.tank_level[i]));
-        put_choices(made, g, near, o);
+        put_choices(&mut made, g, near, o);
     }
+    made
 }

@@ -62,7 +62,7 @@ pub fn start_late(m: &mut Monitor, made: &[u8; 128], s: u8, t: u8, need: u16) ->
 // Start in a list, which keeps the table of choices and the groups of its tasks.
 pub fn start_at(
     m: &mut Monitor,
-    made: &mut [u8; 128],
+    made: &mut Option<[u8; 128]>,
     needs: &mut [u16; 16],
     s: u8,
     t: u8,
@@ -73,7 +73,13 @@ pub fn start_at(
     ensures tables { Tables m.old.plant made.new needs.new }
 {
     start_early(&m.plant, &m.running, s, t)?;
-    make_choices(&m.plant, made);
     let need = need_once(&m.plant, needs, usize::from(t));
-    start_late(m, made, s, t, need)
+    match made {
+        Some(choices) => start_late(m, choices, s, t, need),
+        None => {
+            let choices = make_choices(&m.plant);
+            *made = Some(choices);
+            start_late(m, &choices, s, t, need)
+        }
+    }
 }

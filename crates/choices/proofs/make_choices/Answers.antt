@@ -15,10 +15,10 @@ loop-o-preserved c =
     let g : c.from-g.result ≡ group_of P o = rw c.from-i.ensures at c.from-g.ensures in
     let l : c.from-l.result ≡ lattice_of P (requirement_of P (group_of P o)) = rw (c.from.ensures, g) at c.from-l.ensures in
     let x : c.from-in-loop-o.result ≡ level_of P o = rw c.from-i.ensures at c.from-in-loop-o.ensures in
-    made_next P c.requires.linked.tanks_there o _ _ (c.places_of-places.ensures (group_of P o) (c.requires.linked.tanks_there.group_there o k))
+    made_next P c.requires.tanks_there o _ _ (c.places_of-places.ensures (group_of P o) (c.requires.tanks_there.group_there o k))
     (rw (g, l, x) at c.nearest_for-near.ensures) c.loop-o.o (omega (arith, c.loop-o-test.true)) k _ _ c.loop-o.invariant (rw g at c.put_choices.ensures)
 
 pub returns : goal.returns
 returns c =
     let e : c.loop-o.o ≡ 0 = omega (arith, c.loop-o-test.false) in
-    made_all c.args.p.now c.loop-o.made c.requires.linked.groups_fit (subst (λ (o : ℕ). MadeFrom c.args.p.now o c.loop-o.made) e c.loop-o.invariant)
+    made_all c.args.p.now c.loop-o.made c.requires.groups_fit (subst (λ (o : ℕ). MadeFrom c.args.p.now o c.loop-o.made) e c.loop-o.invariant)

@@ -1,10 +1,9 @@
--- The early tests, and the row and its number, are the rules'.
+-- The early tests, and the row and its number, are the rules': where a start before has made the choices, and where this one makes them.
 use Rattle.std.proofs.Common.{refl}
 use native.Mathlib.Nat.{lt_of_lt_of_le}
 use Rattle.refusal.proofs.NotZero.{handed_on, not_0}
 use Rattle.choice.proofs.Linked.{linked}
 use Rattle.calls.proofs.Ready.{plant_valid}
-use Rattle.calls.proofs.Made.{all_made}
 use Rattle.calls.proofs.Own.{own_search, own_late}
 use Rattle.calls.proofs.Late.{table_looked}
 use Rattle.calls.proofs.Start.{passed, refused_early}
@@ -19,29 +18,29 @@ returns-in_err-start_early-clause-does c =
     let i = c.requires.passes_test_20 in
     rw (handed_on _ _ c.from_residual.ensures) (refused_early _ i c.args.s c.args.t c.in_err-start_early.ensures (not_0 c.in_err-start_early.field-0.0))
 
-pub make_choices-requires-clause-linked : goal.make_choices-requires-clause-linked
-make_choices-requires-clause-linked c = linked _ (plant_valid _ c.requires.passes_test_20)
-
 pub need_once-need-requires-clause-t_bound : goal.need_once-need-requires-clause-t_bound
 need_once-need-requires-clause-t_bound c =
     let f = (plant_valid _ c.requires.passes_test_20).counts in
     let there = passed _ _ _ _ c.args.s c.args.t c.in_ok-start_early.ensures refl in
     rw c.from.ensures (lt_of_lt_of_le there.1 f.tasks_fit, f.groups_fit)
 
-pub need_once-need-requires-clause-needed : goal.need_once-need-requires-clause-needed
-need_once-need-requires-clause-needed c = c.requires.tables.tasks
-
 pub start_late-requires-clause-reads : goal.start_late-requires-clause-reads
 start_late-requires-clause-reads c =
     let i = c.requires.passes_test_20 in
     let there = passed _ _ _ _ c.args.s c.args.t c.in_ok-start_early.ensures refl in
-    own_late _ i c.args.s c.args.t there (table_looked (own_search _ i c.args.s c.args.t there) c.make_choices.ensures)
+    own_late _ i c.args.s c.args.t there (table_looked (own_search _ i c.args.s c.args.t there) (rw c.in-Some.is at c.requires.tables.table))
 
-pub start_late-requires-clause-need : goal.start_late-requires-clause-need
-start_late-requires-clause-need c = rw (← c.from.ensures) c.need_once-need.ensures.0
+pub make_choices-choices-requires : goal.make_choices-choices-requires
+make_choices-choices-requires c = linked _ (plant_valid _ c.requires.passes_test_20)
 
-pub returns-clause-does : goal.returns-clause-does
-returns-clause-does c = done_late _ c.requires.passes_test_20 c.args.s c.args.t c.in_ok-start_early.ensures refl c.start_late.ensures
+pub start_late-requires-in-None-clause-reads : goal.start_late-requires-in-None-clause-reads
+start_late-requires-in-None-clause-reads c =
+    let i = c.requires.passes_test_20 in
+    let there = passed _ _ _ _ c.args.s c.args.t c.in_ok-start_early.ensures refl in
+    own_late _ i c.args.s c.args.t there (table_looked (own_search _ i c.args.s c.args.t there) c.make_choices-choices.ensures)
 
-pub returns-clause-tables : goal.returns-clause-tables
-returns-clause-tables c = all_made c.make_choices.ensures c.need_once-need.ensures.1
+pub returns-in-Some-clause-does : goal.returns-in-Some-clause-does
+returns-in-Some-clause-does c = done_late _ c.requires.passes_test_20 c.args.s c.args.t c.in_ok-start_early.ensures refl c.start_late.ensures
+
+pub returns-in-None-clause-does : goal.returns-in-None-clause-does
+returns-in-None-clause-does c = done_late _ c.requires.passes_test_20 c.args.s c.args.t c.in_ok-start_early.ensures refl c.start_late-in-None.ensures
