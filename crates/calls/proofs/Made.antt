@@ -10,7 +10,7 @@ use lib.Dec.{eqb, ltb}
 use lib.ListN.{get_or, set, replicate, get_or-replicate, length-replicate, length-set}
 use lib.Seq.{get_or-set_same, get_or-set_other}
 use borrow.Author.Tests.{eq-eqb, ne_eqb, ltb-true, lt-ltb, le-ltb}
-use Rattle.std.specs.Prelude.{None, Some}
+use Rattle.std.specs.Prelude.{Option, None, Some}
 use Rattle.base.specs.Below.{any_below}
 use Rattle.base.specs.Bits.{bit}
 use Rattle.base.proofs.Logic.{and_true, or_right}
@@ -26,14 +26,14 @@ use Rattle.calls.specs.Work.{needs_in, NeedIn, NeedOf, Needed, wish_known, wish_
 use Rattle.calls.specs.Start.{NeedsAt}
 use Rattle.calls.proofs.Ready.{plant_valid, wishes_known}
 
-pub none_made : (P : Plant) → Tables P None (replicate 16 0)
+pub none_made : (P : Plant) → Tables P None (replicate 16 None)
 none_made P = record {
   table = tt;
-  tasks = record { size = length-replicate {A = ℕ} 16 0; right = λ t l n. absurd (n (get_or-replicate {A = ℕ} 16 t 0 0 l)) };
+  tasks = record { size = length-replicate {A = Option ℕ} 16 None; right = λ t l. rw (get_or-replicate {A = Option ℕ} 16 t None None l) tt };
 }
 
 -- and once it is made
-pub all_made : {P : Plant} {made needs : List ℕ} → ChoicesIn P made → Needed P needs → Tables P (Some made) needs
+pub all_made : {P : Plant} {made : List ℕ} {needs : List (Option ℕ)} → ChoicesIn P made → Needed P needs → Tables P (Some made) needs
 all_made c n = record { table = c; tasks = n }
 
 -- the set of a task, group by group
@@ -54,12 +54,12 @@ module _ (rights : List ℕ) (t : ℕ) where
   ]
 
 -- the set of a task, put in its place
-pub need_put : (P : Plant) (needs : List ℕ) (t need : ℕ) → t < 16 → Needed P needs → NeedOf P t need → Needed P (set needs t need)
+pub need_put : (P : Plant) (needs : List (Option ℕ)) (t need : ℕ) → t < 16 → Needed P needs → NeedOf P t need → Needed P (set needs t (Some need))
 need_put P needs t need l n h = record {
   size = simp length-set n.size;
   right = λ u m. elim (ℕ_discrete u t) [
-    | yes z ↦ rw (z, get_or-set_same needs t need 0 (omega (arith, l, n.size))) (λ x. h)
-    | no z ↦ rw (get_or-set_other needs t u need 0 (omega arith)) (n.right u m)
+    | yes z ↦ rw (z, get_or-set_same needs t (Some need) None (omega (arith, l, n.size))) h
+    | no z ↦ rw (get_or-set_other needs t u (Some need) None (omega arith)) (n.right u m)
   ];
 }
 

@@ -1,6 +1,6 @@
 -- What the code keeps beside the record while it serves a list (rights granted, groups needed), and what a start looks for, group by group. Each
 -- has its law in proofs/: on a record that passes test 20 it is what the rules say.
-use Rattle.std.specs.Prelude.{◌≡◌, ◌≢◌, ℕ, ◌+◌, ◌*◌, ◌<◌, Bool, true, not, cond, ◌&&◌, ◌||◌, List, [], ◌∷◌, eqb, ltb, leb, get_or, length, replicate, Option, Some, None, Result, Ok, Err, IfOk}
+use Rattle.std.specs.Prelude.{◌≡◌, ℕ, ◌+◌, ◌*◌, ◌<◌, Bool, true, not, cond, ◌&&◌, ◌||◌, List, [], ◌∷◌, eqb, ltb, leb, get_or, length, replicate, Option, Some, None, IfSome, Result, Ok, Err, IfOk}
 use Rattle.base.specs.Below.{any_below}
 use Rattle.base.specs.Bits.{bit}
 use Rattle.base.specs.Chain.{Test, ◌gives◌, first}
@@ -58,11 +58,10 @@ NeedIn rights t groups need = (g : ℕ) → bit need g ≡ ltb g groups && needs
 abbrev pub NeedOf : Plant → ℕ → ℕ → Type 0
 NeedOf P t need = NeedIn P.task_rights t P.groups need
 
--- The sets of all tasks. Each is made at the first start of its task in a list that passes 26, and is empty before; that of a task without a right
--- stays so.
-pub record Needed (P : Plant) (needs : List ℕ) : Type 0 where
+-- The sets of all tasks. Each is made at the first start of its task in a list that passes 26.
+pub record Needed (P : Plant) (needs : List (Option ℕ)) : Type 0 where
   pub size : length needs ≡ 16
-  pub right : (t : ℕ) → t < 16 → get_or needs t 0 ≢ 0 → NeedOf P t (get_or needs t 0)
+  pub right : (t : ℕ) → t < 16 → IfSome (get_or needs t None) (NeedOf P t)
 
 -- start's conditions: those that are asked before any group is looked at
 abbrev pub early_tests : List ℕ → List ℕ → ℕ → ℕ → ℕ → ℕ → List Test

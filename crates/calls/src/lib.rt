@@ -122,8 +122,8 @@ impl From<Call> for Request {
 pub struct Kept {
     // None until a start makes it.
     pub made: Option<[u8; 128]>,
-    // The empty set until a start of the task makes it.
-    pub needs: [u16; 16],
+    // None until a start of the task makes it.
+    pub needs: [Option<u16>; 16],
     pub granted: [u8; 64],
 }
 
@@ -134,7 +134,7 @@ impl Kept {
     {
         Kept {
             made: None,
-            needs: [0; 16],
+            needs: [None; 16],
             granted: [0; 64],
         }
     }

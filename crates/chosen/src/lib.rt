@@ -26,19 +26,17 @@ pub fn need_of(p: &Plant, t: usize) -> u16
     need
 }
 
-// The same, made at the first start of the task in a list that passes 26 and looked up at the others. The empty set stands for one that is not
-// made yet; a task without a right is looked at anew.
-pub fn need_once(p: &Plant, needs: &mut [u16; 16], t: usize) -> u16
+// The same, made at the first start of the task in a list that passes 26 and looked up at the others.
+pub fn need_once(p: &Plant, needs: &mut [Option<u16>; 16], t: usize) -> u16
     requires t_bound { (t < 16) × (p.now.groups ≤ 8) }
     requires needed { Needed p.now needs.old }
     ensures { NeedOf p.now t result × Needed p.now needs.new }
 {
-    let known = needs[t];
-    if known != 0 {
+    if let Some(known) = needs[t] {
         return known;
     }
     let need = need_of(p, t);
-    needs[t] = need;
+    needs[t] = Some(need);
     need
 }
 

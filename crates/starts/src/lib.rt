@@ -63,7 +63,7 @@ pub fn start_late(m: &mut Monitor, made: &[u8; 128], s: u8, t: u8, need: u16) ->
 pub fn start_at(
     m: &mut Monitor,
     made: &mut Option<[u8; 128]>,
-    needs: &mut [u16; 16],
+    needs: &mut [Option<u16>; 16],
     s: u8,
     t: u8,
 ) -> Result<(), Refusal>

@@ -1,5 +1,4 @@
 -- The row and its number are the rules', and an accepted start stores them.
-use Rattle.std.proofs.Common.{◌∙◌}
 use Rattle.refusal.proofs.NotZero.{handed_on, number_not_0}
 use Rattle.calls.proofs.Late.{skid_fits, task_fits_lem, all_reached, row_chosen}
 use Rattle.calls.proofs.Store.{late_refused, late_accepted}
