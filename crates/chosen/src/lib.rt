@@ -1,6 +1,5 @@
 // The row of tanks that a start chooses: the groups that its task needs, and the tank for each.
 // The bound of an index is a clause and no type: a type would be made of a number at each call and taken apart at each array.
-// The plant, the levels and the table are lent one by one: the first two are the record's, and the table is what a list or a start by itself keeps.
 #![tactic(auto)]
 
 ghost use Rattle.std.specs.Prelude.{◌≡◌, true, ◌<◌, ◌≤◌};

@@ -36,7 +36,7 @@ fn start_alone(m: &mut Monitor, s: u8, t: u8) -> Result<(), Refusal>
     start_late(m, &made, s, t, need)
 }
 
-// One request by itself.
+// One request by itself. The answer is the byte that C and an answer buffer have.
 pub fn call_at(m: &mut Monitor, r: Request) -> u8
     requires { intact m.old.plant m.old ≡ true }
     ensures { Does m.old (call_by r.kind r.a r.b r.c r.d) result m.new }

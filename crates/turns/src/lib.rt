@@ -1,7 +1,5 @@
 // One request of a list, on a record that has passed test 20. The list keeps beside the record what the next request reads. Whoever makes a request
 // knows that the record passes: it is the fresh one of an accepted plant, and no call makes it fail.
-// That a record passes test 20 is a clause and no type: C holds records that do not pass, and each step would take the type apart.
-// That what a list keeps fits its record (`Keeps`) is a fact of both, which neither type can have alone.
 #![tactic(auto)]
 
 ghost use Rattle.std.specs.Prelude.{◌≡◌, true};
@@ -41,8 +39,8 @@ fn stop_kept(m: &mut Monitor, kept: &mut Kept, s: u8) -> Result<(), Refusal>
     Ok(())
 }
 
-// One request of a list. The arms are those of a request by itself (crate single), over what a list keeps: a trait for the three that differ would be
-// longer than they are.
+// One request of a list, and the byte that is its answer. The arms are those of a request by itself (crate single), over what a list keeps: a trait for
+// the three that differ would be longer than they are.
 pub fn turn(m: &mut Monitor, kept: &mut Kept, r: Request) -> u8
     requires passes_test_20 { intact m.old.plant m.old ≡ true }
     requires keeps { Keeps m.old kept.old }
