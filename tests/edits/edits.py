@@ -25,8 +25,8 @@ LINE = re.compile(r"^rt: must-fail (\w+)/([\w.-]+)\.edit: (.*)$", re.M)
 REFUSED = "refused, as it must be: "
 # The law or the step of a function's proof that was not accepted: its file and name.
 ERROR = re.compile(r"(?:\./)?((?:specs|proofs)/\S+\.antt):\d+:\d+: error: `([^`]+)`: ")
-# What the check's own walk of a function leaves open: file and line of the function or of a part of it.
-OPEN = re.compile(r"note: (?:\./)?(src/\S+\.rt):(\d+):\d+: it is not proved that ")
+# What the check's own walk of a function leaves open, or the ghost fields of a value that it makes: file and line of the function or of a part of it.
+OPEN = re.compile(r"note: (?:\./)?(src/\S+\.rt):(\d+):\d+: (?:it is not proved that |`search` found no proof \(`invariant_of-)")
 # The files of the proof of one function, in a folder of its name below proofs/; a file of laws may have one of these names too.
 PARTS = {"Answers.antt", "Invariants.antt", "Proof.antt"}
 PAIR = re.compile(r"^file: (\S+)$|^old: (.*)$", re.M)
