@@ -24,8 +24,8 @@ pub fn put_refusal(text: &mut Writer, refusal: Refusal)
     ensures { Writes (refusal_line (number_of refusal)) text.old text.new }
 {
     match refusal {
-        Refusal::RequestsNotWhole => put_labelled(text, b"requests ", refusal.number()),
-        _ => put_labelled(text, b"plant ", refusal.number()),
+        Refusal::RequestsNotWhole => put_labelled(text, b"requests ", u8::from(refusal)),
+        _ => put_labelled(text, b"plant ", u8::from(refusal)),
     }
 }
 
