@@ -19,9 +19,10 @@ const OFFSETS_AT: usize = 8;
 
 const LENGTH_AT: usize = 20;
 
-// Bytes of a record and the most records, by section.
+// Bytes of a record, by section: the form that 01 names for the widths. Edition 2 adds a second row.
 const WIDTHS: [usize; 6] = [34, 2, 2, 2, 10, 2];
 
+// The most records, by section.
 const LIMITS: [usize; 6] = [8, 8, 8, 64, 16, 8];
 
 pub fn width_of(section: Section) -> usize
@@ -30,18 +31,12 @@ pub fn width_of(section: Section) -> usize
     WIDTHS[section as usize]
 }
 
-fn limit_of(section: Section) -> usize
-    ensures { result ≡ limit (section_number section) }
+// The two-byte number at a place in bytes, low byte first.
+pub fn word_at(bytes: &[u8], at: usize) -> u16
+    requires { at + 1 < length bytes.now }
+    ensures { result ≡ word_at bytes.now at }
 {
-    LIMITS[section as usize]
-}
-
-// Low byte first.
-fn word_at(s: &[u8], i: usize) -> usize
-    requires { i + 1 < length s.now }
-    ensures { (result ≡ word_at s.now i) × (result < 65536) }
-{
-    usize::from(s[i]) + usize::from(s[i + 1]) * 256
+    u16::from_le_bytes([bytes[at], bytes[at + 1]])
 }
 
 // How long the file says that it is.
@@ -49,7 +44,7 @@ pub fn length_said(file: &[u8]) -> usize
     requires { header_bytes ≤ length file.now }
     ensures { (result ≡ word_at file.now length_at) × (result < 65536) }
 {
-    word_at(file, LENGTH_AT)
+    usize::from(word_at(file, LENGTH_AT))
 }
 
 // 1: the length.
@@ -65,7 +60,7 @@ pub fn length_ok(file: &[u8]) -> bool
 pub fn count_ok(section: Section, count: usize) -> bool
     ensures { result ≡ count_ok (section_number section) count }
 {
-    1 <= count && count <= limit_of(section)
+    1 <= count && count <= LIMITS[section as usize]
 }
 
 // A file with a whole header.
@@ -93,7 +88,7 @@ impl<'a> Header<'a> {
     pub fn offset(self, section: Section) -> usize
         ensures { (result ≡ offset self.entry.file.now (section_number section)) × (result < 65536) }
     {
-        word_at(self.file, OFFSETS_AT + section as usize * 2)
+        usize::from(word_at(self.file, OFFSETS_AT + section as usize * 2))
     }
 
     // Where it ends.
