@@ -2,7 +2,7 @@
 #![tactic(auto)]
 
 ghost use Rattle.std.specs.Prelude.{◌≡◌, IfOk};
-ghost use Rattle.opening.specs.Reading.{other_zeros, reading_of};
+ghost use Rattle.opening.specs.Reading.{lattice_zeros, other_zeros, reading_of};
 ghost use Rattle.refusal.specs.Number.{answer_of};
 
 use cells::zeros_at;
@@ -16,14 +16,22 @@ use refusal::Refusal;
 // The byte of a lattice, a requirement, a group or a task that is always zero.
 const ZERO_BYTE: usize = 1;
 
-// The zero bytes of the records that check 10 tests.
+// The zero bytes that check 7 tests, of the lattices' records.
+#[tactic(auto, unfolding(opening::specs::Reading::lattice_zeros))]
+fn lattice_zeros(file: PlantFile) -> bool
+    ensures { result ≡ lattice_zeros file.entry.header.file.now }
+{
+    zeros_at(file.part(Section::Lattices), ZERO_BYTE)
+}
+
+// Those that check 10 tests, of the other records.
 #[tactic(auto, unfolding(opening::specs::Reading::other_zeros))]
 fn other_zeros(file: PlantFile) -> bool
     ensures { result ≡ other_zeros file.entry.header.file.now }
 {
-    zeros_at(file, Section::Requirements, ZERO_BYTE)
-        && zeros_at(file, Section::Groups, ZERO_BYTE)
-        && zeros_at(file, Section::Tasks, ZERO_BYTE)
+    zeros_at(file.part(Section::Requirements), ZERO_BYTE)
+        && zeros_at(file.part(Section::Groups), ZERO_BYTE)
+        && zeros_at(file.part(Section::Tasks), ZERO_BYTE)
 }
 
 // Any bytes: opening's number, or the plant.
@@ -33,7 +41,6 @@ pub fn read(file: &[u8]) -> Result<Plant, Refusal>
 {
     let plant_file = check_header(file)?;
     let plant = plant_from(plant_file);
-    let lattice_zeros = zeros_at(plant_file, Section::Lattices, ZERO_BYTE);
-    check_plant(&plant, lattice_zeros, other_zeros(plant_file))?;
+    check_plant(&plant, lattice_zeros(plant_file), other_zeros(plant_file))?;
     Ok(plant)
 }

@@ -9,64 +9,35 @@ use layout::Section;
 use parts::PlantFile;
 use plant::Plant;
 
-const LATTICE_SIZE: Field = Field {
-    section: Section::Lattices,
-    from: 0,
-    run: 1,
-};
+// The fields of each section's records. Each name begins with the record.
+const LATTICE_SIZE: Field = Field { from: 0, run: 1 };
 
-const LATTICE_SETS: Field = Field {
-    section: Section::Lattices,
-    from: 2,
-    run: 16,
-};
+const LATTICE_SETS: Field = Field { from: 2, run: 16 };
 
-const REQUIREMENT_LATTICE: Field = Field {
-    section: Section::Requirements,
-    from: 0,
-    run: 1,
-};
+const REQUIREMENT_LATTICE: Field = Field { from: 0, run: 1 };
 
-const GROUP_REQUIREMENT: Field = Field {
-    section: Section::Groups,
-    from: 0,
-    run: 1,
-};
+const GROUP_REQUIREMENT: Field = Field { from: 0, run: 1 };
 
-const TANK_GROUP: Field = Field {
-    section: Section::Tanks,
-    from: 0,
-    run: 1,
-};
+const TANK_GROUP: Field = Field { from: 0, run: 1 };
 
-const TANK_LEVEL: Field = Field {
-    section: Section::Tanks,
-    from: 1,
-    run: 1,
-};
+const TANK_LEVEL: Field = Field { from: 1, run: 1 };
 
-const TASK_REQUIREMENTS: Field = Field {
-    section: Section::Tasks,
-    from: 0,
-    run: 1,
-};
+const TASK_REQUIREMENTS: Field = Field { from: 0, run: 1 };
 
-const TASK_RIGHTS: Field = Field {
-    section: Section::Tasks,
-    from: 2,
-    run: 8,
-};
+const TASK_RIGHTS: Field = Field { from: 2, run: 8 };
 
-const SKID_TASKS: Field = Field {
-    section: Section::Skids,
-    from: 0,
-    run: 1,
-};
+const SKID_TASKS: Field = Field { from: 0, run: 1 };
 
 // The plant that the records make.
 pub fn plant_from(file: PlantFile) -> Plant
     ensures { result ≡ plant_of file.entry.header.file.now }
 {
+    let lattices = file.part(Section::Lattices);
+    let requirements = file.part(Section::Requirements);
+    let groups = file.part(Section::Groups);
+    let tanks = file.part(Section::Tanks);
+    let tasks = file.part(Section::Tasks);
+    let skids = file.part(Section::Skids);
     Plant {
         lattices: file.header.count_byte(Section::Lattices),
         requirements: file.header.count_byte(Section::Requirements),
@@ -74,14 +45,14 @@ pub fn plant_from(file: PlantFile) -> Plant
         tanks: file.header.count_byte(Section::Tanks),
         tasks: file.header.count_byte(Section::Tasks),
         skids: file.header.count_byte(Section::Skids),
-        lattice_sizes: read_field(file, LATTICE_SIZE),
-        lattice_sets: read_field(file, LATTICE_SETS),
-        requirement_lattice: read_field(file, REQUIREMENT_LATTICE),
-        group_requirement: read_field(file, GROUP_REQUIREMENT),
-        tank_group: read_field(file, TANK_GROUP),
-        tank_level: read_field(file, TANK_LEVEL),
-        task_requirements: read_field(file, TASK_REQUIREMENTS),
-        task_rights: read_field(file, TASK_RIGHTS),
-        skid_tasks: read_field(file, SKID_TASKS),
+        lattice_sizes: read_field(lattices, LATTICE_SIZE),
+        lattice_sets: read_field(lattices, LATTICE_SETS),
+        requirement_lattice: read_field(requirements, REQUIREMENT_LATTICE),
+        group_requirement: read_field(groups, GROUP_REQUIREMENT),
+        tank_group: read_field(tanks, TANK_GROUP),
+        tank_level: read_field(tanks, TANK_LEVEL),
+        task_requirements: read_field(tasks, TASK_REQUIREMENTS),
+        task_rights: read_field(tasks, TASK_RIGHTS),
+        skid_tasks: read_field(skids, SKID_TASKS),
     }
 }

@@ -1,10 +1,9 @@
 -- The byte of each record is tested.
 use Rattle.std.proofs.Common.{rules, tests}
 use Rattle.base.proofs.AllAny.{all_in_range}
-use Rattle.layout.specs.Layout.{count, zeros_at}
-use Rattle.layout.specs.Section.{section_number}
+use Rattle.layout.specs.Layout.{zeros_at}
 use Rattle.cells.proofs.zeros_at.Goals as goal
 
 pub returns : goal.returns
 unfolding zeros_at
-returns c = all_in_range _ (count c.args.file.header.file.now (section_number c.args.section)) c.all.ensures.ran (cc) (λ x b q k. search (rules, tests))
+returns c = all_in_range _ c.args.part.count c.all.ensures.ran (cc) (λ x b q k. search (rules, tests))

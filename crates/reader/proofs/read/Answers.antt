@@ -1,7 +1,6 @@
 -- A check that refuses gives opening's number, and a file that none refuses its plant.
 use Rattle.std.proofs.Common.{refl, ◌∙◌}
 use Rattle.refusal.proofs.NotZero.{handed_on, not_0}
-use Rattle.opening.specs.Reading.{lattice_zeros}
 use Rattle.opening.proofs.Sequence.{early_number, late_number, late_plant}
 use Rattle.reader.proofs.read.Goals as goal
 
@@ -9,20 +8,17 @@ pub returns-in_err-plant_file-clause-refused : goal.returns-in_err-plant_file-cl
 returns-in_err-plant_file-clause-refused c = handed_on _ _ c.from_residual.ensures ∙ early_number _ c.in_err-plant_file.ensures.number (not_0 _)
 
 pub returns-in_err-check_plant-clause-refused : goal.returns-in_err-check_plant-clause-refused
-unfolding lattice_zeros
 returns-in_err-check_plant-clause-refused c =
     let h = c.in_ok-plant_file.ensures in
     handed_on _ _ c.from_residual-in_err-check_plant.ensures
-    ∙ late_number _ h.number h.same c.plant_from-plant.ensures c.zeros_at-lattice_zeros.ensures c.other_zeros.ensures c.in_err-check_plant.ensures
+    ∙ late_number _ h.number h.same c.plant_from-plant.ensures c.lattice_zeros.ensures c.other_zeros.ensures c.in_err-check_plant.ensures
 
 pub returns-clause-refused : goal.returns-clause-refused
-unfolding lattice_zeros
 returns-clause-refused c =
     let h = c.in_ok-plant_file.ensures in
-    late_number _ h.number h.same c.plant_from-plant.ensures c.zeros_at-lattice_zeros.ensures c.other_zeros.ensures c.in_ok-check_plant.ensures
+    late_number _ h.number h.same c.plant_from-plant.ensures c.lattice_zeros.ensures c.other_zeros.ensures c.in_ok-check_plant.ensures
 
 pub returns-clause-plant : goal.returns-clause-plant
-unfolding lattice_zeros
 returns-clause-plant c =
     let h = c.in_ok-plant_file.ensures in
-    late_plant _ h.number h.same c.plant_from-plant.ensures c.zeros_at-lattice_zeros.ensures c.other_zeros.ensures c.in_ok-check_plant.ensures refl
+    late_plant _ h.number h.same c.plant_from-plant.ensures c.lattice_zeros.ensures c.other_zeros.ensures c.in_ok-check_plant.ensures refl

@@ -1,0 +1,40 @@
+-- Each field is read from its own section's part, which is what the definition reads: the equations of the calls, of the counts, the fields and the parts.
+use Rattle.records.proofs.plant_from.Goals as goal
+
+pub returns : goal.returns
+returns c =
+    rw (
+      c.count_byte.ensures,
+      c.count_byte-2.ensures,
+      c.count_byte-3.ensures,
+      c.count_byte-4.ensures,
+      c.count_byte-5.ensures,
+      c.count_byte-6.ensures,
+      c.read_field.ensures,
+      c.read_field-2.ensures,
+      c.read_field-3.ensures,
+      c.read_field-4.ensures,
+      c.read_field-5.ensures,
+      c.read_field-6.ensures,
+      c.read_field-7.ensures,
+      c.read_field-8.ensures,
+      c.read_field-9.ensures,
+      c.part-lattices.ensures.bytes,
+      c.part-lattices.ensures.width,
+      c.part-lattices.ensures.count,
+      c.part-requirements.ensures.bytes,
+      c.part-requirements.ensures.width,
+      c.part-requirements.ensures.count,
+      c.part-groups.ensures.bytes,
+      c.part-groups.ensures.width,
+      c.part-groups.ensures.count,
+      c.part-tanks.ensures.bytes,
+      c.part-tanks.ensures.width,
+      c.part-tanks.ensures.count,
+      c.part-tasks.ensures.bytes,
+      c.part-tasks.ensures.width,
+      c.part-tasks.ensures.count,
+      c.part-skids.ensures.bytes,
+      c.part-skids.ensures.width,
+      c.part-skids.ensures.count,
+    )
