@@ -20,7 +20,8 @@ pub extern "C" fn permits_batch(plant: &[u8], requests: &[u8], out: &mut [u8]) -
     answer(call_batch(plant, requests, out))
 }
 
-// Where 01's section stands in the caller's bytes; C may ask for any kind. A function that C calls cannot hand back a part of them, as layout's `section` does.
+// Where 01's section stands in the caller's bytes; C may ask for any kind. A function that C calls cannot hand back a part of them, as `section` of
+// crate parts does.
 #[unsafe(no_mangle)]
 pub extern "C" fn permits_section(file: &[u8], kind: usize) -> Place
     ensures { result ≡ section_place file.now kind }

@@ -1,5 +1,5 @@
 // The program sections: a plant file on standard input, the bytes of its six sections, in the header's order, on standard output. It runs the part
-// that layout's `section` returns.
+// that `section` (crates/parts) returns.
 #![tactic(auto)]
 
 use input::read_full;
