@@ -32,12 +32,6 @@ const SKID_TASKS: Field = Field { from: 0, run: 1 };
 pub fn plant_from(file: PlantFile) -> Plant
     ensures { result ≡ plant_of file.entry.header.file.now }
 {
-    let lattices = file.part(Section::Lattices);
-    let requirements = file.part(Section::Requirements);
-    let groups = file.part(Section::Groups);
-    let tanks = file.part(Section::Tanks);
-    let tasks = file.part(Section::Tasks);
-    let skids = file.part(Section::Skids);
     Plant {
         lattices: file.header.count_byte(Section::Lattices),
         requirements: file.header.count_byte(Section::Requirements),
@@ -45,14 +39,14 @@ pub fn plant_from(file: PlantFile) -> Plant
         tanks: file.header.count_byte(Section::Tanks),
         tasks: file.header.count_byte(Section::Tasks),
         skids: file.header.count_byte(Section::Skids),
-        lattice_sizes: read_field(lattices, LATTICE_SIZE),
-        lattice_sets: read_field(lattices, LATTICE_SETS),
-        requirement_lattice: read_field(requirements, REQUIREMENT_LATTICE),
-        group_requirement: read_field(groups, GROUP_REQUIREMENT),
-        tank_group: read_field(tanks, TANK_GROUP),
-        tank_level: read_field(tanks, TANK_LEVEL),
-        task_requirements: read_field(tasks, TASK_REQUIREMENTS),
-        task_rights: read_field(tasks, TASK_RIGHTS),
-        skid_tasks: read_field(skids, SKID_TASKS),
+        lattice_sizes: read_field(file, Section::Lattices, LATTICE_SIZE),
+        lattice_sets: read_field(file, Section::Lattices, LATTICE_SETS),
+        requirement_lattice: read_field(file, Section::Requirements, REQUIREMENT_LATTICE),
+        group_requirement: read_field(file, Section::Groups, GROUP_REQUIREMENT),
+        tank_group: read_field(file, Section::Tanks, TANK_GROUP),
+        tank_level: read_field(file, Section::Tanks, TANK_LEVEL),
+        task_requirements: read_field(file, Section::Tasks, TASK_REQUIREMENTS),
+        task_rights: read_field(file, Section::Tasks, TASK_RIGHTS),
+        skid_tasks: read_field(file, Section::Skids, SKID_TASKS),
     }
 }

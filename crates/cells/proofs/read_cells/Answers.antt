@@ -1,7 +1,7 @@
 -- A turn fills one cell more.
 use Rattle.std.proofs.Common.{◌∙◌}
 use Rattle.base.proofs.Filled.{fill_none, fill_next}
-use Rattle.cells.proofs.read_field.Goals as goal
+use Rattle.cells.proofs.read_cells.Goals as goal
 
 pub loop-k-init : goal.loop-k-init
 loop-k-init g c = fill_none _ _
