@@ -24,8 +24,8 @@ fn table(levels: &Levels) -> [[u8; 16]; 16]
     rows
 }
 
-// A `for` over a row by value, which becomes one comparison of sixteen bytes. With `!row[..n].contains(&255)` opening a maximum plant takes 40,900
-// instructions where it takes 39,100 (docs/PERFORMANCE.md). With `.all(..)` the test of a lattice, built by itself, takes 1 to 27 % more, by the form.
+// A `for` over a row by value, which becomes one comparison of sixteen bytes. Opening a maximum plant takes 39,100 instructions with it, 2.3 times the
+// baseline's; with `row[..n].iter().all(..)` 58,700, which misses the aim of 3 (docs/PERFORMANCE.md), and with `contains` 40,900.
 #[tactic(auto, using(base::proofs::Scan::scan_compare))]
 fn is_row_full(row: [u8; 16], n: usize) -> bool
     requires { n ≤ 16 }
