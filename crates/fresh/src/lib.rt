@@ -9,7 +9,7 @@ ghost use Rattle.test20.specs.Zeros.{zero_monitor};
 use plant::Plant;
 use rules::Monitor;
 
-// What a byte stands for that is no level, task or tank: unset, or none.
+// The byte that stands for no level, task or tank: unset, or none.
 const NONE: u8 = 255;
 
 // Every changing part holds the same byte.

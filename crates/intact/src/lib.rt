@@ -1,5 +1,5 @@
 // Test 20: whether a monitor's record can be relied on. A record can come from anywhere, so nothing is asked of it beforehand.
-// That the counts are within the record (`Fits`) is a clause of each step: a struct round the plant with that fact would stand before each part of the
+// That the counts are within the record (`Fits`) is a clause of `parts_ok`: a struct round the plant with that fact would stand before each part of the
 // plant in every other clause, and be no plainer.
 #![tactic(auto)]
 

@@ -1,4 +1,5 @@
 // Check 9: the tables of joins and meets of a lattice's levels, made by one function and tested by another.
+// The bound of an index is a clause and no type: a type would be made of a number at each call and taken apart at each array.
 #![tactic(auto)]
 
 ghost use Rattle.std.specs.Prelude.{◌≡◌, ◌≤◌};
@@ -9,7 +10,8 @@ ghost use Rattle.lattice.specs.Table.{join_table, row_full, table_full};
 use lattice::Lattice;
 use rows::{Levels, numbers_to};
 
-// The table of joins. Of the turned order it is the table of meets.
+// The table of joins. Of the turned order it is the table of meets. 255 stands for no join: with `Option<u8>` for an entry the test of a maximum plant's
+// eight lattices, built by itself, takes 65,600 instructions where it takes 44,400, and opening (docs/PERFORMANCE.md) would miss its aim of 3.
 #[tactic(auto, using(base::proofs::Filled::filled))]
 fn table(levels: &Levels) -> [[u8; 16]; 16]
     ensures { result ≡ join_table levels.now.count (under_in levels.now.above) }
@@ -22,8 +24,8 @@ fn table(levels: &Levels) -> [[u8; 16]; 16]
     rows
 }
 
-// A `for` over a row by value, which becomes one comparison of sixteen bytes: with `.all(..)`, or with the row lent, the test of a lattice of sixteen
-// levels takes a third more instructions.
+// A `for` over a row by value, which becomes one comparison of sixteen bytes. Opening a maximum plant takes 39,100 instructions with it, 2.3 times the
+// baseline's; with `row[..n].iter().all(..)` 58,700, which misses the aim of 3 (docs/PERFORMANCE.md), and with `contains` 40,900.
 #[tactic(auto, using(base::proofs::Scan::scan_compare))]
 fn is_row_full(row: [u8; 16], n: usize) -> bool
     requires { n ≤ 16 }

@@ -10,15 +10,19 @@ use above::in_order;
 use joins::is_complete;
 use lattice::Lattice;
 use refusal::Refusal;
+use sets::none_from;
 
 // Set i has no bit from n on, and none at all where level i is not used.
 fn set_clear(lattice: &Lattice, i: usize) -> bool
     requires { (lattice.now.n ≤ 16) × (i < 16) }
     ensures { result ≡ set_clear lattice.now i }
 {
-    let n = usize::from(lattice.n);
-    let x = u32::from(lattice.sets[i]);
-    if i < n { x >> n == 0 } else { x == 0 }
+    let x = lattice.sets[i];
+    if i < usize::from(lattice.n) {
+        none_from(x, lattice.n)
+    } else {
+        x == 0
+    }
 }
 
 fn sets_clear(lattice: &Lattice) -> bool

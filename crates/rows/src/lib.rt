@@ -53,7 +53,7 @@ fn is_all(x: u16, n: usize) -> bool
     u32::from(x) + 1 == 1u32 << n
 }
 
-// The numbers of the levels as bytes, and 255 from n on.
+// The numbers of the levels as bytes, and 255, which stands for none, from n on: `table` (joins) says why an entry is no `Option`.
 pub fn numbers_to(n: usize) -> [u8; 16]
     requires { n ≤ 16 }
     ensures { result ≡ numbers_to n }

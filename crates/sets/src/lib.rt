@@ -2,10 +2,10 @@
 // The bound of an index is a clause and no type: a type would be made of a number at each call and taken apart at each array.
 #![tactic(auto)]
 
-ghost use Rattle.std.specs.Prelude.{◌≡◌, cond, not, ◌&&◌, ◌||◌, eqb, ℕ, ◌^◌, ◌<◌, MatchOption};
+ghost use Rattle.std.specs.Prelude.{◌≡◌, cond, not, ◌&&◌, ◌||◌, eqb, ℕ, ◌^◌, ◌<◌, ◌≤◌, MatchOption};
 ghost use Rattle.std.specs.Int.Bits.{bit_or};
 ghost use Rattle.std.specs.Iterator.{at_most};
-ghost use Rattle.base.specs.Bits.{bit};
+ghost use Rattle.base.specs.Bits.{bit, none_from};
 ghost use Rattle.sets.specs.Members.{TakenFrom};
 
 // Level i is in the set x.
@@ -14,6 +14,15 @@ pub fn has(x: u16, i: usize) -> bool
     ensures { result ≡ bit x i }
 {
     (x >> i) % 2 == 1
+}
+
+// The set x has no number from n on. A shift by 16 wants the wider number.
+#[tactic(auto, unfolding(base::specs::Bits::none_from))]
+pub fn none_from(x: u16, n: u8) -> bool
+    requires { n ≤ 16 }
+    ensures { result ≡ none_from n x }
+{
+    u32::from(x) >> n == 0
 }
 
 // The union of y and x where level j is in the set `these`, and else y.

@@ -1,23 +1,14 @@
 // Check 10 on the tasks and skids of a plant: no requirement, right or task past its count.
-// That the counts are within the record (`Fits`) is a clause of each step: a struct round the plant with that fact would stand before each part of the
-// plant in every other clause, and be no plainer.
+// That counts are within the record is a clause of each step that leans on it: a struct round the plant with that fact would stand before each part of
+// the plant in every other clause, and be no plainer.
 #![tactic(auto)]
 
 ghost use Rattle.std.specs.Prelude.{◌≡◌, ◌<◌, ◌≤◌};
 ghost use Rattle.base.specs.Below.{all_below};
-ghost use Rattle.base.specs.Bits.{none_from};
 ghost use Rattle.plant.specs.Checks.{entry_clear, task_rights_fit_in, task_fits};
 
 use plant::{Plant, Right};
-
-// No bit of x at or past n. A shift by 16 wants the wider number.
-#[tactic(auto, unfolding(base::specs::Bits::none_from))]
-fn none_from(x: u16, n: u8) -> bool
-    requires { n ≤ 16 }
-    ensures { result ≡ none_from n x }
-{
-    u32::from(x) >> n == 0
-}
+use sets::none_from;
 
 // What task t names on group g are rights, and none at all on a group past the count.
 fn rights_fit(p: &Plant, t: usize, g: usize) -> bool
