@@ -32,9 +32,9 @@ impl<'a> Writer<'a> {
         requires { Room word.now self.old }
         ensures { Writes word.now self.old self.new }
     {
-        for byte in word {
-            self.byte(*byte);
-        }
+        let end = self.at + word.len();
+        self.bytes[self.at..end].copy_from_slice(word);
+        self.at = end;
     }
 
     // Ends the writing: the place behind what was written.
