@@ -64,15 +64,7 @@ fn write_skids(m: &Monitor, list: &mut Writer)
     }
 }
 
-// How many rights so many bytes are, three each.
-fn rights_in(bytes: usize) -> u8
-    requires { bytes ≤ 576 }
-    ensures { result ≡ bytes / 3 }
-{
-    (bytes / 3) as u8
-}
-
-// The list from the buffer's first byte on. The count is known once the rights are written.
+// The list from the buffer's first byte on. The count is known once the rights, three bytes each, are written.
 pub fn write_held(m: &Monitor, out: &mut [u8])
     requires known { Known m.now }
     requires in_bounds { 577 ≤ length out.old }
@@ -81,5 +73,5 @@ pub fn write_held(m: &Monitor, out: &mut [u8])
     let mut list = Writer::new(out, 1);
     write_skids(m, &mut list);
     let end = list.end();
-    out[0] = rights_in(end - 1);
+    out[0] = ((end - 1) / 3) as u8;
 }
