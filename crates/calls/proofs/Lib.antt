@@ -1,4 +1,5 @@
 pub mod Rows
+pub mod Chunks
 pub mod Known
 pub mod Made
 pub mod There
