@@ -26,7 +26,7 @@ fn lower(a: Result<(), Refusal>, b: Result<(), Refusal>) -> Result<(), Refusal>
     ensures { answer_of result ≡ lower (answer_of a) (answer_of b) }
 {
     match (a, b) {
-        (Err(x), Err(y)) if y.number() < x.number() => Err(y),
+        (Err(x), Err(y)) if u8::from(y) < u8::from(x) => Err(y),
         (Err(x), _) => Err(x),
         (Ok(()), outcome) => outcome,
     }

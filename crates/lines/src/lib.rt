@@ -23,7 +23,7 @@ pub fn put_refusal(text: &mut Writer, number: u8)
     requires { Room (refusal_line number) text.old }
     ensures { Writes (refusal_line number) text.old text.new }
 {
-    if number == Refusal::RequestsNotWhole.number() {
+    if number == u8::from(Refusal::RequestsNotWhole) {
         return put_labelled(text, b"requests ", number);
     }
     put_labelled(text, b"plant ", number);

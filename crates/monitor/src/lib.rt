@@ -19,7 +19,7 @@ pub fn step(m: Monitor, r: Request) -> Answered
 {
     if !is_intact(&m) {
         return Answered {
-            answer: Refusal::MonitorNotIntact.number(),
+            answer: u8::from(Refusal::MonitorNotIntact),
             monitor: m,
         };
     }

@@ -18,7 +18,7 @@ pub fn open(file: &[u8]) -> Answered
             monitor: fresh_monitor(plant),
         },
         Err(refusal) => Answered {
-            answer: refusal.number(),
+            answer: u8::from(refusal),
             monitor: zero_monitor(),
         },
     }

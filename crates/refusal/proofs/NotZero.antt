@@ -3,7 +3,7 @@ use Prim.Native.Nat.{ℕ}
 use Rattle.std.specs.Prelude.{◌≡◌, eqb, Bool, true, false, Result, Ok, Err}
 use Rattle.std.specs.Result.{IsErr, IsErrAnd, is_err}
 use native.Mathlib.Omega.{arith}
-use mathlib.Core.Path.{refl, sym, ap, ◌∙◌}
+use mathlib.Core.Path.{refl, sym, ap}
 use borrow.Author.Tests.{eqb-false}
 use Rattle.refusal.specs.declared.Refusal.{Refusal}
 use Rattle.refusal.specs.declared.Refusal.TheVariants.{WrongLength, WrongEdition, CountOutOfRange, HeaderByteNotZero, SectionOutside, SectionsShare, LatticeMalformed, NotAnOrder, NotALattice, EntryOutOfRange, TanksAtOneLevel, RequirementNotNamed, MonitorNotIntact, NoSuchSkid, NoSuchTask, NoSuchRequirement, NoSuchLevel, MayNotRun, AlreadyRuns, LevelNotSet, NoTankAtOrUnder, NoSuchTank, NoSuchRight, BufferTooShort, NoSuchKind, RequestsNotWhole}

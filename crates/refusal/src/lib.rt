@@ -37,11 +37,11 @@ pub enum Refusal {
     RequestsNotWhole = 34,
 }
 
-impl Refusal {
-    pub fn number(self) -> u8
-        ensures { result ≡ number_of self }
-    {
-        self as u8
+impl From<Refusal> for u8 {
+    ghost from_gives = { λ refusal number. number ≡ number_of refusal };
+
+    fn from(refusal: Refusal) -> u8 {
+        refusal as u8
     }
 }
 
@@ -51,7 +51,7 @@ pub fn answer(outcome: Result<(), Refusal>) -> u8
 {
     match outcome {
         Ok(()) => 0,
-        Err(refusal) => refusal.number(),
+        Err(refusal) => u8::from(refusal),
     }
 }
 
@@ -62,6 +62,6 @@ pub fn gate_answer(outcome: Result<bool, Refusal>) -> u8
     match outcome {
         Ok(true) => 0,
         Ok(false) => 33,
-        Err(refusal) => refusal.number(),
+        Err(refusal) => u8::from(refusal),
     }
 }

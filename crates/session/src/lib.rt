@@ -40,11 +40,11 @@ fn print_session(input: &[u8], text: &mut Writer)
         return text.word(b"long\n");
     }
     if input.len() < HEADER_BYTES {
-        return put_refusal(text, Refusal::WrongLength.number());
+        return put_refusal(text, u8::from(Refusal::WrongLength));
     }
     match input.split_at_checked(length_said(input)) {
         Some((plant, requests)) => print_batch(plant, requests, text),
-        None => put_refusal(text, Refusal::WrongLength.number()),
+        None => put_refusal(text, u8::from(Refusal::WrongLength)),
     }
 }
 

@@ -55,6 +55,6 @@ pub fn call_at(m: &mut Monitor, r: Request) -> u8
         Ok(Call::Gate { skid, tank, right }) => gate_answer(gate_at(
             &m.plant, &m.running, &m.chosen, skid, tank, right,
         )),
-        Err(refusal) => refusal.number(),
+        Err(refusal) => u8::from(refusal),
     }
 }

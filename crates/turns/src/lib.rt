@@ -66,6 +66,6 @@ pub fn turn(m: &mut Monitor, kept: &mut Kept, r: Request) -> u8
             tank,
             right,
         )),
-        Err(refusal) => refusal.number(),
+        Err(refusal) => u8::from(refusal),
     }
 }

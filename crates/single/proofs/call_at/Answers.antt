@@ -22,4 +22,4 @@ pub returns-in-Ok-Gate : goal.returns-in-Ok-Gate
 returns-in-Ok-Gate c = rw (c.gate_answer.ensures, c.in-Ok-Gate.ensures, c.in-Ok-Gate.field-0-is) (c.gate_at.ensures _ (own_task _ c.requires))
 
 pub returns-in-Err : goal.returns-in-Err
-returns-in-Err c = rw (c.number.ensures, c.in-Err.ensures.0, c.in-Err.ensures.1) (unknown_does _)
+returns-in-Err c = rw (c.from.ensures, c.in-Err.ensures.0, c.in-Err.ensures.1) (unknown_does _)

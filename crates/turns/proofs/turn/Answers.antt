@@ -16,4 +16,4 @@ pub returns-in-Ok-Gate-clause-does : goal.returns-in-Ok-Gate-clause-does
 returns-in-Ok-Gate-clause-does c = rw (c.gate_answer.ensures, c.in-Ok-Gate.ensures, c.in-Ok-Gate.field-0-is) (c.gate_granted.ensures _ (own_grant _ c.requires.passes_test_20 c.requires.keeps.grants))
 
 pub returns-in-Err-clause-does : goal.returns-in-Err-clause-does
-returns-in-Err-clause-does c = rw (c.number.ensures, c.in-Err.ensures.0, c.in-Err.ensures.1) (unknown_does _)
+returns-in-Err-clause-does c = rw (c.from.ensures, c.in-Err.ensures.0, c.in-Err.ensures.1) (unknown_does _)
