@@ -1,5 +1,4 @@
 pub mod Rows
-pub mod Chunks
 pub mod Known
 pub mod Made
 pub mod There

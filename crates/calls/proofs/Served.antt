@@ -26,7 +26,7 @@ use Rattle.calls.specs.declared.Request.{Request}
 use Rattle.calls.specs.Lent.{call_by, Keeps}
 use Rattle.calls.specs.Requests.{OfBytes}
 use Rattle.calls.specs.RequestBytes.{call_at, calls_of}
-use Rattle.calls.proofs.Chunks.{chunk_at}
+use Rattle.base.proofs.Chunks.{chunk_at}
 
 -- one call more at the end of a list
 pub ends_more : (cs : List Call) (m : Monitor) (c : Call) → ends m (cs ++ (c ∷ [])) ≡ stepped (ends m cs).plant (ends m cs) c

@@ -7,7 +7,7 @@ use native.Mathlib.Omega.{arith}
 use lib.ListN.{get_or}
 use Rattle.std.specs.Simd.{first_chunks}
 use Rattle.printing.specs.Text.{right_line, right_line_at}
-use Rattle.calls.proofs.Chunks.{chunk_at}
+use Rattle.base.proofs.Chunks.{chunk_at}
 
 pub chunk_line : (bytes : List ℕ) (k i : ℕ) → i < k → right_line (get_or (get_or (first_chunks 3 k bytes) i []) 0 0) (get_or (get_or (first_chunks 3 k bytes) i []) 1 0) (get_or (get_or (first_chunks 3 k bytes) i []) 2 0) ≡ right_line_at bytes i
 chunk_line bytes k i l =

@@ -1,13 +1,11 @@
--- The laws of what a writer has written: nothing, a word that is copied, a part and the rest, and a list that is collected. Assumes nothing.
-use Prim.Native.Nat.{ℕ, ◌+◌, ◌-◌, ◌<◌}
-use mathlib.Core.Path.{◌≡◌, refl, ap, subst, ◌∙◌}
+-- The laws of what a writer has written: nothing, a part and the rest, and a list that is collected. Assumes nothing.
+use Prim.Native.Nat.{ℕ, ◌+◌, ◌<◌}
+use mathlib.Core.Path.{◌≡◌, refl, subst, ◌∙◌}
 use mathlib.Core.List.{List, [], ◌++◌}
 use native.Mathlib.Omega.{arith}
 use lib.ListN.{length, take}
-use lib.Seq.{drop-drop}
-use borrow.Rule.Slice.PartMut.{put_mid}
 use Rattle.base.specs.Collect.{collect}
-use Rattle.base.specs.Overlay.{overlay, Wrote}
+use Rattle.base.specs.Overlay.{Wrote}
 use Rattle.base.proofs.Collected.{wrote_nothing, wrote_none, wrote_more, wrote_room}
 use Rattle.base.proofs.Written.{front_room, rest_room, rest_wrote}
 use Rattle.writer.specs.declared.Writer.{Writer}
@@ -33,13 +31,6 @@ module _ (ws vs : List ℕ) {w w' : Writer} (h : Room (ws ++ vs) w) (a : Writes 
 
   pub writes_both : {w'' : Writer} → Writes vs w' w'' → Writes (ws ++ vs) w w''
   writes_both b = record { same_buffer = b.same_buffer ∙ a.same_buffer; same_length = b.same_length ∙ a.same_length; wrote = rest_wrote ws vs w.bytes.now w.at h.fits a.wrote b.wrote }
-
--- `bytes[at..at + word.len()].copy_from_slice(word)`
-pub word_copied : (word bytes : List ℕ) (at : ℕ) → Wrote word bytes at (put_mid at (at + length word - at) bytes word) (at + length word)
-unfolding overlay
-word_copied word bytes at =
-    let k : at + length word - at ≡ length word = omega arith in
-    record { bytes = rw k (ap (λ (l : List ℕ). take at bytes ++ (word ++ l)) (drop-drop (length word) at bytes)); place = refl }
 
 -- a loop that writes f i, for i from 0 up to n
 pub writes_none : (f : ℕ → List ℕ) (w : Writer) → Writes (collect f 0) w w
