@@ -48,13 +48,14 @@ fn print_session(input: &[u8], text: &mut Writer)
     }
 }
 
-// What the program read: the first n bytes of the array, or all of it where n is more.
+// What the program read: the first n bytes of the array, or all of it where n is more. The array and n, and not the part that was read: that input which
+// is too long shows is promised of the array (`PrintsRead`).
 pub fn print_read(input: &[u8; INPUT], n: usize, text: &mut [u8; TEXT]) -> usize
     ensures { PrintsRead input.now n text.old text.new result }
 {
     // as a slice, since the check does not cover a part of an array that is lent
     let bytes: &[u8] = input;
-    let mut writer = Writer::new(text, 0);
+    let mut writer = Writer::new(text);
     print_session(&bytes[..n.min(bytes.len())], &mut writer);
     writer.end()
 }
