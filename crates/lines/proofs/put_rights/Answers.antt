@@ -1,5 +1,5 @@
 -- Right by right: the room for its line, and what is written with it.
-use Rattle.std.proofs.Common.{◌≡◌, ◌/◌, ◌<◌, length, sym, arith}
+use Rattle.std.proofs.Common.{◌/◌, ◌<◌, length, sym, arith}
 use Rattle.printing.specs.Text.{right_line_at}
 use Rattle.writer.proofs.Written.{room_as, writes_as, writes_none, room_more, writes_more}
 use Rattle.lines.proofs.Chunks.{chunk_line}
@@ -24,9 +24,3 @@ loop-skid-preserved c =
     let l : i < n = omega (arith, c.as_chunks.ensures.front_len) in
     writes_more (right_line_at rights) i n l c.requires c.loop-skid.invariant
     (writes_as (chunk_line rights n i l) (rw c.as_chunks.ensures.front at c.put_right.ensures))
-
-pub returns : goal.returns
-returns c =
-    let n = length c.args.rights.now / 3 in
-    let e : c.loop-skid.skid-index ≡ n = omega (arith, c.as_chunks.ensures.front_len) in
-    writes_as (rw e) c.loop-skid.invariant
