@@ -1,11 +1,10 @@
 // The batch call: plant bytes and request bytes, and the answers and the list of rights in the caller's buffer.
 #![tactic(auto)]
 
-ghost use Rattle.std.specs.Prelude.{◌≡◌, true, ◌+◌, ◌*◌, ◌/◌, ◌≤◌, length, IfOk};
+ghost use Rattle.std.specs.Prelude.{◌≡◌, true, ◌+◌, ◌/◌, ◌≤◌, length, IfOk};
 ghost use Rattle.base.specs.Overlay.{overlay};
 ghost use Rattle.plant.specs.Checks.{plant_refusal};
-ghost use Rattle.calls.specs.RequestBytes.{calls_of};
-ghost use Rattle.outcome.specs.Batch.{size_checks, outcome, batch_refusal, batch_out};
+ghost use Rattle.outcome.specs.Batch.{size_checks, outcome, batch_calls, batch_refusal, batch_out};
 ghost use Rattle.base.specs.Chain.{first};
 ghost use Rattle.refusal.specs.Number.{answer_of};
 
@@ -16,19 +15,20 @@ use reader::read;
 use refusal::Refusal;
 
 // The n answers, and behind them the list of the rights held.
-fn write_outcome(p: Plant, requests: &[u8], n: usize, out: &mut [u8])
+fn write_outcome(p: Plant, requests: &[u8], out: &mut [u8])
     requires plant_passes { plant_refusal true true p ≡ 0 }
-    requires in_range { (n * 5 ≤ length requests.now) × (n + 577 ≤ length out.old) }
-    ensures { out.new ≡ overlay out.old 0 (outcome p (calls_of requests.now n)) }
+    requires in_range { length requests.now / 5 + 577 ≤ length out.old }
+    ensures { out.new ≡ overlay out.old 0 (outcome p (batch_calls requests.now)) }
 {
-    let m = serve(p, requests, n, out);
+    let n = requests.len() / 5;
+    let m = serve(p, requests, out);
     write_held(&m, &mut out[n..]);
 }
 
-// How many requests there are: 34 for request bytes that are no multiple of five, then 31 for a buffer under n + 577 bytes.
-fn count_requests(bytes: usize, room: usize) -> Result<usize, Refusal>
+// 34 for request bytes that are no multiple of five, then 31 for a buffer under n + 577 bytes, where n is how many requests there are.
+fn check_sizes(bytes: usize, room: usize) -> Result<(), Refusal>
     ensures refused { answer_of result ≡ first (size_checks bytes room) }
-    ensures count { IfOk result (λ n. (n ≡ bytes / 5) × ((n * 5 ≤ bytes) × (n + 577 ≤ room))) }
+    ensures room_enough { IfOk result (λ _. bytes / 5 + 577 ≤ room) }
 {
     if bytes % 5 != 0 {
         return Err(Refusal::RequestsNotWhole);
@@ -37,7 +37,7 @@ fn count_requests(bytes: usize, room: usize) -> Result<usize, Refusal>
     if room < n + 577 {
         return Err(Refusal::BufferTooShort);
     }
-    Ok(n)
+    Ok(())
 }
 
 // 1 to 12: the plant. 34: request bytes that are no multiple of five. 31: a buffer under n + 577 bytes. Otherwise accepted, and the buffer holds the
@@ -47,7 +47,7 @@ pub fn call_batch(plant: &[u8], requests: &[u8], out: &mut [u8]) -> Result<(), R
         × (out.new ≡ batch_out plant.now requests.now out.old) }
 {
     let p = read(plant)?;
-    let n = count_requests(requests.len(), out.len())?;
-    write_outcome(p, requests, n, out);
+    check_sizes(requests.len(), out.len())?;
+    write_outcome(p, requests, out);
     Ok(())
 }

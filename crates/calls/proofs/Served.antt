@@ -1,6 +1,7 @@
 -- A loop over request bytes makes the run of their calls from the fresh monitor. Assumes nothing.
 use mathlib.Core.Path.{◌≡◌, refl, sym, ap, subst, ◌∙◌}
-use Prim.Native.Nat.{ℕ, zero, suc, ◌+◌, ◌<◌, ◌≤◌}
+use Prim.Native.Nat.{ℕ, zero, suc, ◌+◌, ◌*◌, ◌<◌, ◌≤◌}
+use native.Mathlib.Nat.{add-zero}
 use native.Mathlib.Numerals.{add-one}
 use native.Mathlib.Omega.{arith}
 use mathlib.Core.Bool.{true}
@@ -19,9 +20,13 @@ use Rattle.rules.specs.Record.{fresh, view_of, intact, stepped}
 use Rattle.rules.specs.Run.{runs, ends, TestedOnce}
 use Rattle.rules.proofs.Agree.{fresh_agree, intact_true}
 use Rattle.rules.proofs.IntactKept.{tested_once}
+use Rattle.std.specs.Simd.{first_chunks}
 use Rattle.calls.specs.declared.Kept.{Kept}
-use Rattle.calls.specs.Lent.{Keeps}
+use Rattle.calls.specs.declared.Request.{Request}
+use Rattle.calls.specs.Lent.{call_by, Keeps}
+use Rattle.calls.specs.Requests.{OfBytes}
 use Rattle.calls.specs.RequestBytes.{call_at, calls_of}
+use Rattle.base.proofs.Chunks.{chunk_at}
 
 -- one call more at the end of a list
 pub ends_more : (cs : List Call) (m : Monitor) (c : Call) → ends m (cs ++ (c ∷ [])) ≡ stepped (ends m cs).plant (ends m cs) c
@@ -58,6 +63,12 @@ calls_at bytes (suc n) i d l = elim (ℕ_discrete i n) [
 pub calls_more : (bytes : List ℕ) (n : ℕ) → calls_of bytes (n + 1) ≡ calls_of bytes n ++ (call_at bytes n ∷ [])
 unfolding calls_of
 calls_more bytes n = rw add-one
+
+-- the request of the five bytes of part i asks for call i
+pub chunk_call : (bytes : List ℕ) (k i : ℕ) (r : Request) → i < k → OfBytes (get_or (first_chunks 5 k bytes) i []) r → call_by r.kind r.a r.b r.c r.d ≡ call_at bytes i
+chunk_call bytes k i r l e =
+    let at : (j : ℕ) → j < 5 → get_or (get_or (first_chunks 5 k bytes) i []) j 0 ≡ get_or bytes (i * 5 + j) 0 = λ j b. chunk_at 5 k bytes i j l b in
+    rw (e, at 0 (omega arith), at 1 (omega arith), at 2 (omega arith), at 3 (omega arith), at 4 (omega arith), add-zero)
 
 module _ (P : Plant) (q : plant_refusal true true P ≡ 0) where
   sound : Sound P

@@ -1,6 +1,7 @@
 -- What a request asks for: the rules' call, or 32 where they know none of its kind. And an item of a call that may be missing.
-use Rattle.std.specs.Prelude.{◌≡◌, Bool, Result, MatchResult}
+use Rattle.std.specs.Prelude.{◌≡◌, ℕ, Bool, List, Result, MatchResult}
 use Rattle.base.specs.Chain.{Test, ◌gives◌}
+use Rattle.layout.specs.Layout.{byte_at}
 use Rattle.refusal.specs.Number.{number_of}
 use Rattle.refusal.specs.declared.Refusal.{Refusal}
 use Rattle.refusal.specs.declared.Refusal.TheVariants.{NoSuchKind}
@@ -9,6 +10,10 @@ use Rattle.calls.specs.declared.Request.{Request}
 use Rattle.calls.specs.declared.Call.{Call}
 use Rattle.calls.specs.declared.Call.TheVariants.{Set, Start, Stop, Gate}
 use Rattle.calls.specs.Lent.{call_by}
+
+-- the request of five bytes: the kind, and then the call's arguments in their order
+abbrev pub OfBytes : List ℕ → Request → Type 0
+OfBytes bytes r = r ≡ record { kind = byte_at bytes 0; a = byte_at bytes 1; b = byte_at bytes 2; c = byte_at bytes 3; d = byte_at bytes 4 }
 
 -- the rules' name of a call
 abbrev pub ruled : Call → rules.Call

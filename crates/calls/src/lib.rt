@@ -8,7 +8,7 @@ ghost use Rattle.plant.specs.declared.Plant.{Plant};
 ghost use Rattle.refusal.specs.Number.{answer_of};
 ghost use Rattle.rules.specs.Record.{fresh};
 ghost use Rattle.calls.specs.Lent.{Keeps};
-ghost use Rattle.calls.specs.Requests.{AsksFor, RequestFor, missing_item};
+ghost use Rattle.calls.specs.Requests.{AsksFor, RequestFor, OfBytes, missing_item};
 
 use refusal::Refusal;
 
@@ -44,6 +44,14 @@ pub enum Call {
         tank: u8,
         right: u8,
     },
+}
+
+impl From<[u8; 5]> for Request {
+    ghost from_gives = { OfBytes };
+
+    fn from([kind, a, b, c, d]: [u8; 5]) -> Request {
+        Request { kind, a, b, c, d }
+    }
 }
 
 impl TryFrom<Request> for Call {

@@ -1,18 +1,17 @@
 -- The count that is stored in front of the rights. Assumes nothing.
-use mathlib.Core.Path.{◌≡◌, ap, ◌∙◌}
-use Prim.Native.Nat.{ℕ, suc, ◌+◌, ◌-◌, ◌/◌, ◌≤◌}
+use mathlib.Core.Path.{◌≡◌, ap, ap₂, ◌∙◌}
+use Prim.Native.Nat.{ℕ, suc, ◌+◌, ◌/◌, ◌≤◌}
 use mathlib.Core.List.{List, [], ◌∷◌, ◌++◌}
 use native.Mathlib.Omega.{arith}
-use lib.ListN.{length, set, drop}
+use lib.ListN.{length, set, take, drop}
 use Rattle.base.specs.Overlay.{overlay, Wrote}
 
-overlay_front : (xs : List ℕ) (v : ℕ) (ws : List ℕ) → 1 ≤ length xs → set (overlay xs 1 ws) 0 v ≡ overlay xs 0 (v ∷ ws)
+-- the rights stand behind the first byte, and a third of their bytes goes into it
+pub counted : (out ws : List ℕ) {front rest : List ℕ} {end : ℕ} → 1 ≤ length out → front ≡ take 1 out → Wrote ws (drop 1 out) 0 rest end → set front 0 (end / 3) ++ rest ≡ overlay out 0 (length ws / 3 ∷ ws)
 unfolding overlay
-overlay_front [] v ws h = absurd (omega arith)
-overlay_front (x ∷ xs) v ws h = ap (λ (k : ℕ). v ∷ (ws ++ drop k (x ∷ xs))) (let e : 1 + length ws ≡ 0 + suc (length ws) = omega arith in e)
-
--- k, a third of the bytes that were written behind it, goes in front
-pub counted : (out ws : List ℕ) (k : ℕ) {out' : List ℕ} {end : ℕ} → 1 ≤ length out → Wrote ws out 1 out' end → k ≡ (end - 1) / 3 → set out' 0 k ≡ overlay out 0 (length ws / 3 ∷ ws)
-counted out ws k {out'} {end} h w e =
-    let n : end - 1 ≡ length ws = omega (arith, w.place) in
-    ap (λ (l : List ℕ). set l 0 k) w.bytes ∙ overlay_front out k ws h ∙ ap (λ (x : ℕ). overlay out 0 (x ∷ ws)) (e ∙ ap (λ (x : ℕ). x / 3) n)
+counted [] ws h f w = absurd (omega arith)
+counted (x ∷ xs) ws {front} {rest} {end} h f w =
+    let n : end ≡ length ws = omega (arith, w.place) in
+    let e : suc (0 + length ws) ≡ 0 + suc (length ws) = omega arith in
+    ap (λ (l : List ℕ). set l 0 (end / 3) ++ rest) f
+    ∙ ap₂ (λ (k : ℕ) (l : List ℕ). k / 3 ∷ l) n (w.bytes ∙ ap (λ (k : ℕ). ws ++ drop k (x ∷ xs)) e)

@@ -64,22 +64,15 @@ fn write_skids(m: &Monitor, list: &mut Writer)
     }
 }
 
-// How many rights so many bytes are, three each.
-fn rights_in(bytes: usize) -> u8
-    requires { bytes ≤ 576 }
-    ensures { result ≡ bytes / 3 }
-{
-    (bytes / 3) as u8
-}
-
-// The list from the buffer's first byte on. The count is known once the rights are written.
+// The list from the buffer's first byte on. The count stands in front of the rights, three bytes each, and is known once they are written.
 pub fn write_held(m: &Monitor, out: &mut [u8])
     requires known { Known m.now }
     requires in_bounds { 577 ≤ length out.old }
     ensures { out.new ≡ overlay out.old 0 (list_bytes_in m.now) }
 {
-    let mut list = Writer::new(out, 1);
+    let (count, rights) = out.split_at_mut(1);
+    let mut list = Writer::new(rights);
     write_skids(m, &mut list);
-    let end = list.end();
-    out[0] = rights_in(end - 1);
+    let bytes = list.end();
+    count[0] = (bytes / 3) as u8;
 }

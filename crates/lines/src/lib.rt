@@ -1,10 +1,9 @@
 // The lines of a batch's outcome, written as text.
 #![tactic(auto)]
 
-ghost use Rattle.std.specs.Prelude.{◌+◌, ◌*◌, ◌<◌, ◌≤◌, length};
+ghost use Rattle.std.specs.Prelude.{◌+◌, ◌*◌, ◌/◌, ◌<◌, ◌≤◌, ◌++◌, length};
 ghost use Rattle.layout.specs.Layout.{byte_at};
 ghost use Rattle.printing.specs.Text.{answer_lines, right_line, right_lines, refusal_line, held_lines, outcome_lines};
-ghost use Rattle.refusal.specs.Number.{number_of, answer_of};
 ghost use Rattle.writer.specs.Writing.{Room, Writes};
 
 use refusal::Refusal;
@@ -19,14 +18,15 @@ fn put_right(text: &mut Writer, skid: u8, tank: u8, right: u8)
     put_pair(text, u32::from(tank), right);
 }
 
-pub fn put_refusal(text: &mut Writer, refusal: Refusal)
-    requires { Room (refusal_line (number_of refusal)) text.old }
-    ensures { Writes (refusal_line (number_of refusal)) text.old text.new }
+// The number and not the `Refusal`, since any number has its line (`refusal_line`).
+pub fn put_refusal(text: &mut Writer, number: u8)
+    requires { Room (refusal_line number) text.old }
+    ensures { Writes (refusal_line number) text.old text.new }
 {
-    match refusal {
-        Refusal::RequestsNotWhole => put_labelled(text, b"requests ", u8::from(refusal)),
-        _ => put_labelled(text, b"plant ", u8::from(refusal)),
+    if number == u8::from(Refusal::RequestsNotWhole) {
+        return put_labelled(text, b"requests ", number);
     }
+    put_labelled(text, b"plant ", number);
 }
 
 // The first request is number 1.
@@ -40,15 +40,12 @@ fn put_answers(text: &mut Writer, answers: &[u8])
     }
 }
 
-// By its place, since chunks_exact would hand out slices of three, to be indexed all the same.
-fn put_rights(text: &mut Writer, rights: &[u8], n: usize)
-    requires rights_within { n * 3 ≤ length rights.now }
-    requires room { Room (right_lines rights.now n) text.old }
-    ensures { Writes (right_lines rights.now n) text.old text.new }
+fn put_rights(text: &mut Writer, rights: &[u8])
+    requires { Room (right_lines rights.now (length rights.now / 3)) text.old }
+    ensures { Writes (right_lines rights.now (length rights.now / 3)) text.old text.new }
 {
-    for i in 0..n {
-        let k = i * 3;
-        put_right(text, rights[k], rights[k + 1], rights[k + 2]);
+    for [skid, tank, right] in rights.as_chunks::<3>().0 {
+        put_right(text, *skid, *tank, *right);
     }
 }
 
@@ -60,21 +57,19 @@ fn put_held(text: &mut Writer, held: &[u8])
 {
     let count = held[0];
     put_labelled(text, b"held ", count);
-    put_rights(text, &held[1..], usize::from(count));
+    put_rights(text, &held[1..1 + usize::from(count) * 3]);
 }
 
-// A count is one byte, so whatever the batch answered, its rights take at most 3 * 255 bytes of `results` and 12 * 255 of the text. A request's
-// number has at most five digits, so an answer takes at most ten.
-pub fn print_outcome(text: &mut Writer, outcome: Result<(), Refusal>, results: &[u8], n: usize)
-    requires in_range { (n < 100000) × (n + 766 ≤ length results.now) }
-    requires room { text.old.at + n * 10 + 3069 ≤ length text.old.bytes.now }
-    ensures { Writes (outcome_lines (answer_of outcome) n results.now) text.old text.new }
+// What a batch answered, and, where it was accepted with 0, the two parts of its buffer. A count is one byte, so whatever the batch answered, its rights
+// take at most 3 * 255 bytes of `held` and 12 * 255 of the text. A request's number has at most five digits, so an answer takes at most ten.
+pub fn print_outcome(text: &mut Writer, number: u8, answers: &[u8], held: &[u8])
+    requires in_range { (length answers.now < 100000) × (766 ≤ length held.now) }
+    requires room { text.old.at + length answers.now * 10 + 3069 ≤ length text.old.bytes.now }
+    ensures { Writes (outcome_lines number (length answers.now) (answers.now ++ held.now)) text.old text.new }
 {
-    match outcome {
-        Ok(()) => {
-            put_answers(text, &results[..n]);
-            put_held(text, &results[n..]);
-        }
-        Err(refusal) => put_refusal(text, refusal),
+    if number != 0 {
+        return put_refusal(text, number);
     }
+    put_answers(text, answers);
+    put_held(text, held);
 }

@@ -2,7 +2,6 @@
 use Prim.Native.Nat.{ℕ, ◌+◌, ◌*◌, ◌≤◌, ◌<◌}
 use mathlib.Core.Path.{◌≡◌}
 use mathlib.Core.List.{List, [], ◌∷◌, ◌++◌}
-use native.Mathlib.Decide.{ℕ_discrete}
 use native.Mathlib.Omega.{arith}
 use lib.Dec.{eqb}
 use lib.ListN.{length, drop, get_or, length-append}
@@ -11,9 +10,8 @@ use Rattle.base.proofs.Logic.{split}
 use Rattle.base.proofs.Written.{collect_short}
 use Rattle.layout.specs.Layout.{byte_at}
 use Rattle.printing.specs.Decimal.{decimal}
-use Rattle.printing.specs.Text.{codes, line, answer_line, answer_line_at, answer_lines, right_line, right_line_at, right_lines, held_line, held_lines, refusal_line, outcome_lines}
+use Rattle.printing.specs.Text.{codes, line, answer_line, answer_line_at, answer_lines, right_line, right_line_at, right_lines, held_line, held_lines, refusal_line}
 use Rattle.printing.proofs.Decimal.{decimal_short}
-use Rattle.printing.proofs.Outcome.{refused_lines, accepted_lines}
 
 -- every element is a byte
 abbrev pub Bytes : List ℕ → Type 0
@@ -43,7 +41,7 @@ held_short n l = omega (arith, one_length (decimal n), byte_short n l)
 pub refusal_short : (n : ℕ) → n < 256 → length (refusal_line n) ≤ 13
 refusal_short n l = split (eqb n 34) (λ e. rw e (omega (arith, one_length (decimal n), byte_short n l))) (λ e. rw e (omega (arith, one_length (decimal n), byte_short n l)))
 
-answers_short : (answers : List ℕ) (n : ℕ) → Bytes answers → n < 100000 → length (answer_lines answers n) ≤ n * 10
+pub answers_short : (answers : List ℕ) (n : ℕ) → Bytes answers → n < 100000 → length (answer_lines answers n) ≤ n * 10
 answers_short answers n b l = collect_short (answer_line_at answers) 10 n (λ i m. answer_short _ _ (omega arith) (b i))
 
 rights_short : (rights : List ℕ) (n : ℕ) → Bytes rights → length (right_lines rights n) ≤ n * 12
@@ -54,16 +52,8 @@ bytes_drop : (s : List ℕ) (n : ℕ) → Bytes s → Bytes (drop n s)
 bytes_drop s n b i = rw (get_or-drop n s i 0) (b (n + i))
 
 -- A count is one byte: at most 255 rights.
-held_lines_short : (held : List ℕ) → Bytes held → length (held_lines held) ≤ 3069
+pub held_lines_short : (held : List ℕ) → Bytes held → length (held_lines held) ≤ 3069
 held_lines_short held b =
     let k = byte_at held 0 in
     omega
     (arith, length-append (held_line k) (right_lines (drop 1 held) k), held_short k (b 0), rights_short (drop 1 held) k (bytes_drop held 1 b), b 0)
-
-pub outcome_short : (number n : ℕ) (results : List ℕ) → number < 256 → n < 100000 → Bytes results → length (outcome_lines number n results) ≤ n * 10 + 3069
-outcome_short number n results l m b = elim (ℕ_discrete number 0) [
-  | yes e ↦
-      rw (accepted_lines number n results e)
-      (omega (arith, length-append (answer_lines results n) (held_lines (drop n results)), answers_short results n b m, held_lines_short (drop n results) (bytes_drop results n b)))
-  | no e ↦ rw (refused_lines number n results e) (omega (arith, refusal_short number l))
-]

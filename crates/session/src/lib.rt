@@ -8,7 +8,7 @@ ghost use Rattle.writer.specs.Writing.{Writes};
 use batch_call::call_batch;
 use header::{HEADER_BYTES, length_said};
 use lines::{print_outcome, put_refusal};
-use refusal::Refusal;
+use refusal::{Refusal, answer};
 use writer::Writer;
 
 // What the program reads into: one byte more than is taken, so that longer input shows.
@@ -26,8 +26,9 @@ fn print_batch(plant: &[u8], requests: &[u8], text: &mut Writer)
     ensures { Writes (batch_lines plant.now requests.now) text.old text.new }
 {
     let mut results = [0u8; RESULTS];
-    let outcome = call_batch(plant, requests, &mut results);
-    print_outcome(text, outcome, &results, requests.len() / 5);
+    let number = answer(call_batch(plant, requests, &mut results));
+    let (answers, held) = results.split_at(requests.len() / 5);
+    print_outcome(text, number, answers, held);
 }
 
 // Over 65,536 bytes are too long. A plant that is not all there is refused with 1, as a file of another length than it says.
@@ -39,21 +40,22 @@ fn print_session(input: &[u8], text: &mut Writer)
         return text.word(b"long\n");
     }
     if input.len() < HEADER_BYTES {
-        return put_refusal(text, Refusal::WrongLength);
+        return put_refusal(text, u8::from(Refusal::WrongLength));
     }
     match input.split_at_checked(length_said(input)) {
         Some((plant, requests)) => print_batch(plant, requests, text),
-        None => put_refusal(text, Refusal::WrongLength),
+        None => put_refusal(text, u8::from(Refusal::WrongLength)),
     }
 }
 
-// What the program read: the first n bytes of the array, or all of it where n is more.
+// What the program read: the first n bytes of the array, or all of it where n is more. The array and n, and not the part that was read: that input which
+// is too long shows is promised of the array (`PrintsRead`).
 pub fn print_read(input: &[u8; INPUT], n: usize, text: &mut [u8; TEXT]) -> usize
     ensures { PrintsRead input.now n text.old text.new result }
 {
     // as a slice, since the check does not cover a part of an array that is lent
     let bytes: &[u8] = input;
-    let mut writer = Writer::new(text, 0);
+    let mut writer = Writer::new(text);
     print_session(&bytes[..n.min(bytes.len())], &mut writer);
     writer.end()
 }

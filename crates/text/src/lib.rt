@@ -1,4 +1,7 @@
 // Numbers and lines of numbers, written as text.
+// By functions of their own and not by `Display` and `write!`: tried for a line of two numbers, of a `Writer` that is a `fmt::Write`, and the proof does
+// not close. `write!` answers a Result, and its contract says what is written where that is Ok and never that it is, whatever room there is; these
+// functions cannot fail.
 // That a number has at most five digits is a clause: with a type for it, each count would be made one first.
 #![tactic(auto, using(writer::proofs::Written::room_rest))]
 
@@ -30,8 +33,9 @@ fn put_place(text: &mut Writer, m: u32)
     }
 }
 
-// A place that n does not reach has no digit. Five places by fixed divisions of 32 bits: tried with the toolchain's itoa, the line of an answer
-// takes 118 instructions, where this takes 76, and permits misses its bar.
+// A place that n does not reach has no digit. Five places by fixed divisions of 32 bits: with the toolchain's itoa the line of an answer takes 118
+// instructions, where this takes 76, and permits with 65,000 bytes 1.49 times the baseline's, where its bar is 1.2 and this takes 1.16. 01's session
+// has ten answers, and takes 1.21 either way.
 fn put_number(text: &mut Writer, n: u32)
     requires in_range { n < 100000 }
     requires room { Room (decimal n) text.old }

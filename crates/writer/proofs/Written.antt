@@ -1,13 +1,13 @@
--- The laws of what a writer has written: nothing, a byte, a word byte by byte, a part and the rest, and a list that is collected. Assumes nothing.
+-- The laws of what a writer has written: nothing, a part and the rest, and a list that is collected. Assumes nothing.
 use Prim.Native.Nat.{ℕ, ◌+◌, ◌<◌}
 use mathlib.Core.Path.{◌≡◌, refl, subst, ◌∙◌}
-use mathlib.Core.List.{List, [], ◌∷◌, ◌++◌}
+use mathlib.Core.List.{List, [], ◌++◌}
 use native.Mathlib.Omega.{arith}
-use lib.ListN.{length, take, get_or}
+use lib.ListN.{length, take}
 use Rattle.base.specs.Collect.{collect}
 use Rattle.base.specs.Overlay.{Wrote}
 use Rattle.base.proofs.Collected.{wrote_nothing, wrote_none, wrote_more, wrote_room}
-use Rattle.base.proofs.Written.{word_room, word_more, front_room, rest_room, rest_wrote}
+use Rattle.base.proofs.Written.{front_room, rest_room, rest_wrote}
 use Rattle.writer.specs.declared.Writer.{Writer}
 use Rattle.writer.specs.Writing.{Room, Writes}
 
@@ -31,14 +31,6 @@ module _ (ws vs : List ℕ) {w w' : Writer} (h : Room (ws ++ vs) w) (a : Writes 
 
   pub writes_both : {w'' : Writer} → Writes vs w' w'' → Writes (ws ++ vs) w w''
   writes_both b = record { same_buffer = b.same_buffer ∙ a.same_buffer; same_length = b.same_length ∙ a.same_length; wrote = rest_wrote ws vs w.bytes.now w.at h.fits a.wrote b.wrote }
-
--- a loop that writes a word byte by byte
-module _ (word : List ℕ) (i : ℕ) {w w' : Writer} (l : i < length word) (h : Room word w) (a : Writes (take i word) w w') where
-  pub letter_room : Room (get_or word i 0 ∷ []) w'
-  letter_room = record { fits = omega (arith, word_room word w.bytes.now w.at i l h.fits a.wrote) }
-
-  pub letter_writes : {w'' : Writer} → Writes (get_or word i 0 ∷ []) w' w'' → Writes (take (i + 1) word) w w''
-  letter_writes b = record { same_buffer = b.same_buffer ∙ a.same_buffer; same_length = b.same_length ∙ a.same_length; wrote = word_more word w.bytes.now w.at i l h.fits a.wrote b.wrote }
 
 -- a loop that writes f i, for i from 0 up to n
 pub writes_none : (f : ℕ → List ℕ) (w : Writer) → Writes (collect f 0) w w

@@ -12,12 +12,12 @@ pub struct Writer<'a> {
 }
 
 impl<'a> Writer<'a> {
-    // From the buffer's place `at` on.
-    pub fn new(bytes: &'a mut [u8], at: usize) -> Writer<'a>
+    // From the buffer's first byte on.
+    pub fn new(bytes: &'a mut [u8]) -> Writer<'a>
         ensures same_buffer { result.bytes.ghost_name ≡ bytes.entry.ghost_name }
-        ensures begins { (result.bytes.now ≡ bytes.old) × (result.at ≡ at) }
+        ensures begins { (result.bytes.now ≡ bytes.old) × (result.at ≡ 0) }
     {
-        Writer { bytes, at }
+        Writer { bytes, at: 0 }
     }
 
     pub fn byte(&mut self, byte: u8)
@@ -32,9 +32,9 @@ impl<'a> Writer<'a> {
         requires { Room word.now self.old }
         ensures { Writes word.now self.old self.new }
     {
-        for byte in word {
-            self.byte(*byte);
-        }
+        let end = self.at + word.len();
+        self.bytes[self.at..end].copy_from_slice(word);
+        self.at = end;
     }
 
     // Ends the writing: the place behind what was written.

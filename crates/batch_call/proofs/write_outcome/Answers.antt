@@ -6,4 +6,4 @@ pub write_held-requires-clause-known : goal.write_held-requires-clause-known
 write_held-requires-clause-known c = rights_known _ c.requires.plant_passes _ _ c.serve-m.ensures.record_after
 
 pub returns : goal.returns
-returns c = let e = c.serve-m.ensures in outcome_out _ c.requires.plant_passes _ _ e.record_after _ c.requires.in_range.1 e.answers c.write_held.ensures
+returns c = let e = c.serve-m.ensures in outcome_out _ c.requires.plant_passes _ _ e.record_after _ c.requires.in_range e.answers c.write_held.ensures
