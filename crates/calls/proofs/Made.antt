@@ -33,7 +33,7 @@ none_made P = record {
 }
 
 -- and once it is made
-pub all_made : {P : Plant} {made : List ℕ} {needs : List (Option ℕ)} → ChoicesIn P made → Needed P needs → Tables P (Some made) needs
+pub all_made : {P : Plant} {made : List (Option ℕ)} {needs : List (Option ℕ)} → ChoicesIn P made → Needed P needs → Tables P (Some made) needs
 all_made c n = record { table = c; tasks = n }
 
 -- the set of a task, group by group
