@@ -1,8 +1,8 @@
 // The table of the choices for each group and level.
-// The length of the table is a clause, since the clauses speak of it as a list.
+// The bound of an index is a clause and no type: a type would be made of a number at each call and taken apart at each array.
 #![tactic(auto)]
 
-ghost use Rattle.std.specs.Prelude.{◌≡◌, ◌<◌, length};
+ghost use Rattle.std.specs.Prelude.{◌<◌};
 ghost use Rattle.choice.specs.Table.{Linked, ChoicesIn, Put};
 
 use nearest::{nearest_for, places_of};
@@ -11,7 +11,7 @@ use sets::has;
 
 // Tank o goes to the entries of its group g for the levels of the set `near`. The loop has a fixed length, as in `above_in`.
 fn put_choices(made: &mut [Option<u8>; 128], g: usize, near: u16, o: u8)
-    requires { (g < 8) × (length made.old ≡ 128) }
+    requires { g < 8 }
     ensures { Put g near o made.old made.new }
 {
     for v in 0..16 {

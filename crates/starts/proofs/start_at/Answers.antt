@@ -43,6 +43,3 @@ start_late-requires-clause-reads c =
 
 pub returns-clause-does : goal.returns-clause-does
 returns-clause-does c = done_late _ c.requires.passes_test_20 c.args.s c.args.t c.in_ok-start_early.ensures refl c.start_late.ensures
-
-pub returns-clause-tables : goal.returns-clause-tables
-returns-clause-tables c = record { table = tabled _ c.requires.tables.table c.get_or_insert_with-choices.ensures.cases; tasks = c.need_once-need.ensures.1 }
