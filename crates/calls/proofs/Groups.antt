@@ -10,7 +10,7 @@ use lib.Dec.{eqb}
 use lib.ListN.{length, get_or, set, replicate, length-replicate, get_or-replicate, length-set}
 use lib.Seq.{get_or-set_same, get_or-set_other, ext_get_or}
 use borrow.Author.Tests.{eqb-true, eqb-false, eq-eqb}
-use Rattle.std.specs.Prelude.{Option, Some, None, Result, Ok, Err, IfOk}
+use Rattle.std.specs.Prelude.{Option, Some, None, is_none, unwrap_or, Result, Ok, Err, IfOk}
 use Rattle.base.specs.Below.{any_below}
 use Rattle.base.specs.Bits.{bit}
 use Rattle.base.specs.Chain.{◌gives◌, first}
@@ -24,40 +24,22 @@ use Rattle.refusal.specs.Number.{answer_of}
 use Rattle.sets.specs.Members.{TakenFrom}
 use Rattle.calls.specs.Work.{wish_in, found_in, pick_in, row_in, RowDone}
 
--- a is that a level is unset, b that there is no tank, o the tank
-abbrev pub outcome_of : Bool → Bool → ℕ → Result (Option ℕ) Refusal
-outcome_of a b o = cond a (Err LevelNotSet) (Ok (cond b None (Some o)))
-
 abbrev number_of : Bool → Bool → ℕ
 number_of a b = first (a gives 27 ∷ b gives 28 ∷ [])
-
-is_tank : (a b : Bool) (o : ℕ) {k : ℕ} → ◌≡◌ {A = Result (Option ℕ) Refusal} (Ok (Some k)) (outcome_of a b o) → (a ≡ false) × (b ≡ false) × (k ≡ o)
-is_tank true b o e = cc
-is_tank false true o e = cc
-is_tank false false o e = (refl, refl, cc)
-
-is_lacking : (a b : Bool) (o : ℕ) → ◌≡◌ {A = Result (Option ℕ) Refusal} (Ok None) (outcome_of a b o) → (a ≡ false) × (b ≡ true)
-is_lacking true b o e = cc
-is_lacking false true o e = (refl, refl)
-is_lacking false false o e = cc
-
-is_unset : (a b : Bool) (o : ℕ) {r : Refusal} → ◌≡◌ {A = Result (Option ℕ) Refusal} (Err r) (outcome_of a b o) → (a ≡ true) × (r ≡ LevelNotSet)
-is_unset true b o e = (refl, cc)
-is_unset false b o e = cc
 
 -- a group of the set is seen once it is not in the rest
 abbrev pub seen : ℕ → ℕ → ℕ → Bool
 seen need rest g = bit need g && not (bit rest g)
 
--- p says of a group that its level is unset, and `tank` which tank it has, 255 for none
-module _ (p : ℕ → Bool) (tank : ℕ → ℕ) where
+-- p says of a group that its level is unset, and `tank` which tank it has, if any
+module _ (p : ℕ → Bool) (tank : ℕ → Option ℕ) where
   abbrev none : ℕ → Bool
-  none g = eqb (tank g) 255
+  none g = is_none (tank g)
 
   -- what is found over the set
   pub record SetDone (need : ℕ) (outcome : Result (List ℕ) Refusal) : Type 0 where
     pub answers : answer_of outcome ≡ number_of (any_below (λ g. bit need g && p g) 8) (any_below (λ g. bit need g && none g) 8)
-    pub chooses : IfOk outcome (λ row. (length row ≡ 8) × ((g : ℕ) → g < 8 → get_or row g 0 ≡ cond (bit need g) (tank g) 255))
+    pub chooses : IfOk outcome (λ row. (length row ≡ 8) × ((g : ℕ) → g < 8 → get_or row g 0 ≡ cond (bit need g) (unwrap_or (tank g) 255) 255))
 
   -- what the loop knows when `rest` is left of the set
   pub record RowSoFar (need rest : ℕ) (lacking : Bool) (row : List ℕ) : Type 0 where
@@ -65,7 +47,7 @@ module _ (p : ℕ → Bool) (tank : ℕ → ℕ) where
     pub all_set : (g : ℕ) → seen need rest g ≡ true → p g ≡ false
     pub lacks : lacking ≡ any_below (λ g. seen need rest g && none g) 8
     pub size : length row ≡ 8
-    pub chooses : (g : ℕ) → g < 8 → get_or row g 0 ≡ cond (seen need rest g) (tank g) 255
+    pub chooses : (g : ℕ) → g < 8 → get_or row g 0 ≡ cond (seen need rest g) (unwrap_or (tank g) 255) 255
 
   pub none_yet : (need : ℕ) → RowSoFar need need false (replicate 8 255)
   none_yet need = record {
@@ -76,7 +58,7 @@ module _ (p : ℕ → Bool) (tank : ℕ → ℕ) where
     chooses = λ g l. rw (and-not_self (bit need g)) (get_or-replicate {A = ℕ} 8 g 255 0 l);
   }
 
-module _ {p : ℕ → Bool} {tank : ℕ → ℕ} {need rest : ℕ} {lacking : Bool} {row : List ℕ} (v : RowSoFar p tank need rest lacking row) where
+module _ {p : ℕ → Bool} {tank : ℕ → Option ℕ} {need rest : ℕ} {lacking : Bool} {row : List ℕ} (v : RowSoFar p tank need rest lacking row) where
   -- all are seen
   module _ (z : rest ≡ 0) where
     same : (g : ℕ) → seen need rest g ≡ bit need g
@@ -99,13 +81,11 @@ module _ {p : ℕ → Bool} {tank : ℕ → ℕ} {need rest : ℕ} {lacking : Bo
 
   -- group g is taken from the rest, and `left` is the rest without it
   module _ {g left : ℕ} (l : g < 8) (T : TakenFrom rest g left) where
-    pub ends_unset : {r : Refusal} → Err r ≡ outcome_of (p g) (none p tank g) (tank g) → SetDone p tank need (Err r)
-    ends_unset e =
-        let k = is_unset (p g) (none p tank g) (tank g) e in
-        record {
-          answers = rw k.1 (sym (rw (any_yes 8 (λ g. bit need g && p g) g l (and_both _ _ (v.part g T.was_in) k.0))));
-          chooses = tt;
-        }
+    pub ends_unset : p g ≡ true → SetDone p tank need (Err LevelNotSet)
+    ends_unset e = record {
+      answers = sym (rw (any_yes 8 (λ g. bit need g && p g) g l (and_both _ _ (v.part g T.was_in) e)));
+      chooses = tt;
+    }
 
     -- group g is seen now, and the others as before
     seen_own : seen need left g ≡ true
@@ -116,7 +96,7 @@ module _ {p : ℕ → Bool} {tank : ℕ → ℕ} {need rest : ℕ} {lacking : Bo
 
     module _ (s : p g ≡ false) where
       -- the loop goes on, with a row that has the group's tank
-      go_on : {lacking' : Bool} {row' : List ℕ} → lacking' ≡ any_below (λ j. seen need left j && none p tank j) 8 → length row' ≡ 8 → get_or row' g 0 ≡ tank g
+      go_on : {lacking' : Bool} {row' : List ℕ} → lacking' ≡ any_below (λ j. seen need left j && none p tank j) 8 → length row' ≡ 8 → get_or row' g 0 ≡ unwrap_or (tank g) 255
           → ((j : ℕ) → j < 8 → eqb g j ≡ false → get_or row' j 0 ≡ get_or row j 0) → RowSoFar p tank need left lacking' row'
       go_on a b c d = record {
         part = λ j h. v.part j (and_true (bit rest j) (not (eqb g j)) (sym (T.leaves j) ∙ h)).0;
@@ -136,19 +116,18 @@ module _ {p : ℕ → Bool} {tank : ℕ → ℕ} {need rest : ℕ} {lacking : Bo
           (λ z. rw (← eqb-true g j z, own) (and-false (seen need rest g) ∙ sym (and-false (seen need left g))))
           (λ z. rw (seen_other j z)))
 
-    pub tank_found : {k : ℕ} → Ok (Some k) ≡ outcome_of (p g) (none p tank g) (tank g) → RowSoFar p tank need left lacking (set row g k)
-    tank_found {k} e =
-        let q = is_tank (p g) (none p tank g) (tank g) e in
-        go_on q.0 (still q.0 q.1) (simp length-set v.size) (get_or-set_same row g k 0 (omega (arith, l, v.size)) ∙ q.2) (λ j m z. get_or-set_other row g j k 0 (λ y. eqb-false g j z (sym y)))
+      pub tank_found : {k : ℕ} → tank g ≡ Some k → RowSoFar p tank need left lacking (set row g k)
+      tank_found {k} e =
+          go_on (still (rw e)) (simp length-set v.size) (get_or-set_same row g k 0 (omega (arith, l, v.size)) ∙ sym (rw e))
+          (λ j m z. get_or-set_other row g j k 0 (λ y. eqb-false g j z (sym y)))
 
-    pub tank_lacking : Ok None ≡ outcome_of (p g) (none p tank g) (tank g) → RowSoFar p tank need left true row
-    tank_lacking e =
-        let q = is_lacking (p g) (none p tank g) (tank g) e in
-        go_on q.0 (sym (any_yes 8 (λ j. seen need left j && none p tank j) g l (and_both _ _ seen_own q.1))) v.size
-        (v.chooses g l ∙ rw (T.was_in, and-false (bit need g)) (sym (eqb-true (tank g) 255 q.1))) (λ j m z. refl)
+      pub tank_lacking : tank g ≡ None → RowSoFar p tank need left true row
+      tank_lacking e =
+          go_on (sym (any_yes 8 (λ j. seen need left j && none p tank j) g l (and_both _ _ seen_own (rw e)))) v.size
+          (v.chooses g l ∙ rw (T.was_in, and-false (bit need g), e)) (λ j m z. refl)
 
 -- what is looked up in arrays: a level that is unset, and what is found
-module _ (found : ℕ → ℕ → ℕ) (requirement levels : List ℕ) (s t : ℕ) where
+module _ (found : ℕ → ℕ → Option ℕ) (requirement levels : List ℕ) (s t : ℕ) where
   abbrev pub unset_in : ℕ → Bool
   unset_in g = eqb (wish_in requirement levels s t g) 255
 

@@ -8,7 +8,7 @@ use mathlib.Core.List.{List}
 use lib.Dec.{eqb}
 use lib.ListN.{replicate, length-replicate}
 use borrow.Author.Tests.{eqb-false, eq-eqb, ne_eqb}
-use Rattle.std.specs.Prelude.{Result, Ok, Err, IfOk}
+use Rattle.std.specs.Prelude.{Option, unwrap_or, Result, Ok, Err, IfOk}
 use Rattle.base.specs.Below.{any_below}
 use Rattle.base.specs.Bits.{bit}
 use Rattle.base.specs.Chain.{first}
@@ -18,7 +18,7 @@ use Rattle.base.proofs.Filled.{fill_at}
 use Rattle.plant.specs.declared.Plant.{Plant}
 use Rattle.plant.specs.Plant.{requirement_of, needs}
 use Rattle.plant.specs.Valid.{Valid}
-use Rattle.choice.specs.Choice.{unset, served, choice}
+use Rattle.choice.specs.Choice.{unset, if_set, served, choice}
 use Rattle.choice.proofs.Choice.{choice_is, choice_none}
 use Rattle.choice.specs.Table.{ChoicesIn}
 use Rattle.choice.proofs.Search.{table_choice, choice_same}
@@ -29,7 +29,7 @@ use Rattle.rules.specs.Rules.{blank_at, blank, lacking, conditions, pick_for}
 use Rattle.calls.specs.Work.{level_known, made_at, wish_in, found_in, blank_in, lacking_in, pick_in, NeedOf, Reached, RowDone, get_row}
 use Rattle.calls.specs.Start.{Startable, SearchReads, LateReads, Looked, NeedsAt, wish_of, stored_wish, late_tests}
 use Rattle.calls.proofs.Made.{reached, over_groups, needed_there}
-use Rattle.calls.proofs.Known.{known}
+use Rattle.calls.proofs.Known.{known, none_set, byte_set}
 use Rattle.calls.proofs.Ready.{plant_valid, level_there}
 use Rattle.calls.proofs.Views.{level_is}
 
@@ -88,18 +88,18 @@ module _ {s t : ℕ} {m : Monitor} (W : Startable s t m) where
   }
 
 -- a table of all choices has what a start looks up
-pub table_looked : {P : Plant} {levels : List ℕ} {s t : ℕ} → SearchReads P levels s t → {made : List ℕ} → ChoicesIn P made → Looked P levels s t made
+pub table_looked : {P : Plant} {levels : List ℕ} {s t : ℕ} → SearchReads P levels s t → {made : List (Option ℕ)} → ChoicesIn P made → Looked P levels s t made
 table_looked {P} {levels} {s} {t} R c g l n = table_choice P c g (stored_wish levels s t) l.0 (known (stored_wish levels s t (requirement_of P g)) 16 (R.levels_known g l.0) n)
 
 -- What the row of a start is in the rules' words, where `need` is the set of the task's groups.
-module _ {made : List ℕ} {s t : ℕ} {m : Monitor} (R : LateReads made s t m) (need : ℕ) (n : NeedOf m.plant t need) where
+module _ {made : List (Option ℕ)} {s t : ℕ} {m : Monitor} (R : LateReads made s t m) (need : ℕ) (n : NeedOf m.plant t need) where
   abbrev P : Plant
   P = m.plant
 
   X : Valid P
   X = plant_valid m R.startable.passes
 
-  abbrev found : ℕ → ℕ
+  abbrev found : ℕ → Option ℕ
   found = found_in (made_at made) m.plant.group_requirement m.levels s t
 
   there : (g : ℕ) → bit need g ≡ true → NeedsAt P t g
@@ -117,12 +117,12 @@ module _ {made : List ℕ} {s t : ℕ} {m : Monitor} (R : LateReads made s t m) 
 
   -- no level of the set is unset: the table has the choices
   module _ (z : any_below (blank_in m.plant.group_requirement m.levels s t (bit need)) 8 ≡ false) where
-    same_found : (g : ℕ) → bit need g ≡ true → found g ≡ tank_for m s t g
+    same_found : (g : ℕ) → bit need g ≡ true → found g ≡ if_set (tank_for m s t g)
     same_found g b =
         let l = there g b in
         let w = is_wish R.startable g l.0 in
         let u : eqb (wish_in m.plant.group_requirement m.levels s t g) 255 ≡ false = rw b at (any_no 8 (blank_in m.plant.group_requirement m.levels s t (bit need)) z g (group_fits R.startable g l.0)) in
-        R.table g l (eqb-false (wish_in m.plant.group_requirement m.levels s t g) 255 u) ∙ choice_same P g (stored_wish m.levels s t) (wish_of m s t) w
+        R.table g l (eqb-false (wish_in m.plant.group_requirement m.levels s t g) 255 u) ∙ ap if_set (choice_same P g (stored_wish m.levels s t) (wish_of m s t) w)
 
     -- a group that is served has a tank, and 255 stands for none
     none_served : (g : ℕ) → g < P.groups → eqb (tank_for m s t g) 255 ≡ no_tank m s t g
@@ -133,11 +133,11 @@ module _ {made : List ℕ} {s t : ℕ} {m : Monitor} (R : LateReads made s t m) 
     same_lacking : any_below (lacking_in (made_at made) m.plant.group_requirement m.levels s t (bit need)) 8 ≡ any_below (λ g. needs P t g && no_tank m s t g) P.groups
     same_lacking =
         any_same 8 (lacking_in (made_at made) m.plant.group_requirement m.levels s t (bit need)) (λ g. bit need g && no_tank m s t g)
-        (λ g l. split (bit need g) (λ b. rw (b, same_found g b) (none_served g (there g b).0)) (λ b. rw b))
+        (λ g l. split (bit need g) (λ b. rw (b, same_found g b) (none_set (tank_for m s t g) ∙ none_served g (there g b).0)) (λ b. rw b))
         ∙ over_needed (no_tank m s t)
 
-    same_pick : (g : ℕ) → cond (bit need g) (found g) 255 ≡ cond (bit need g) (tank_for m s t g) 255
-    same_pick g = split (bit need g) (λ b. rw (b, same_found g b)) (λ b. rw b)
+    same_pick : (g : ℕ) → cond (bit need g) (unwrap_or (found g) 255) 255 ≡ cond (bit need g) (tank_for m s t g) 255
+    same_pick g = split (bit need g) (λ b. rw (b, same_found g b) (byte_set (tank_for m s t g))) (λ b. rw b)
 
   module _ {outcome : Result (List ℕ) Refusal} (d : RowDone (made_at made) m.plant.group_requirement m.levels s t (bit need) 8 outcome) where
     number_is : answer_of outcome ≡ first (late_tests m s t)

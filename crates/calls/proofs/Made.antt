@@ -18,7 +18,6 @@ use Rattle.base.proofs.Below.{all_at, any_same, any_upto, next_but_own}
 use Rattle.base.proofs.Bits.{zero_bit}
 use Rattle.plant.specs.declared.Plant.{Plant}
 use Rattle.plant.specs.Plant.{needs}
-use Rattle.choice.specs.Table.{ChoicesIn}
 use Rattle.rules.specs.declared.Monitor.{Monitor}
 use Rattle.rules.specs.Record.{intact}
 use Rattle.calls.specs.Lent.{Tables}
@@ -31,10 +30,6 @@ none_made P = record {
   table = tt;
   tasks = record { size = length-replicate {A = Option ℕ} 16 None; right = λ t l. rw (get_or-replicate {A = Option ℕ} 16 t None None l) tt };
 }
-
--- and once it is made
-pub all_made : {P : Plant} {made : List ℕ} {needs : List (Option ℕ)} → ChoicesIn P made → Needed P needs → Tables P (Some made) needs
-all_made c n = record { table = c; tasks = n }
 
 -- the set of a task, group by group
 module _ (rights : List ℕ) (t : ℕ) where

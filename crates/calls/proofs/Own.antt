@@ -3,6 +3,7 @@ use mathlib.Core.Path.{◌≡◌, refl}
 use Prim.Native.Nat.{ℕ, ◌<◌}
 use mathlib.Core.Bool.{true}
 use mathlib.Core.List.{List}
+use Rattle.std.specs.Prelude.{Option}
 use Rattle.rules.specs.declared.Monitor.{Monitor}
 use Rattle.rules.specs.Record.{intact}
 use Rattle.calls.specs.Work.{Granted}
@@ -31,5 +32,5 @@ module _ (m : Monitor) (i : intact m.plant m ≡ true) where
     pub own_search : SearchReads m.plant m.levels s t
     own_search = search_reads own_start
 
-    pub own_late : {made : List ℕ} → Looked m.plant m.levels s t made → LateReads made s t m
+    pub own_late : {made : List (Option ℕ)} → Looked m.plant m.levels s t made → LateReads made s t m
     own_late h = record { startable = own_start; table = h }

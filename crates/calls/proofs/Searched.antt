@@ -1,5 +1,5 @@
 -- The choices that a start by itself looks up, searched for one group after the other. Assumes nothing.
-use mathlib.Core.Path.{◌≡◌, sym, ◌∙◌}
+use mathlib.Core.Path.{◌≡◌, refl, sym, ap, ◌∙◌}
 use mathlib.Core.Logic.{◌≢◌}
 use Prim.Native.Nat.{ℕ, ◌+◌, ◌*◌, ◌<◌}
 use native.Mathlib.Omega.{arith}
@@ -9,17 +9,18 @@ use mathlib.Core.List.{List}
 use lib.Dec.{eqb}
 use lib.ListN.{length, get_or, set, length-set}
 use lib.Seq.{get_or-set_same, get_or-set_other}
-use borrow.Author.Tests.{eqb-true, eqb-false, eq-eqb, ne_eqb}
+use borrow.Author.Tests.{eqb-true, eqb-false}
+use Rattle.std.specs.Prelude.{Option, None}
 use Rattle.base.specs.Bits.{bit}
 use Rattle.base.proofs.Logic.{split, and_true}
 use Rattle.plant.specs.declared.Plant.{Plant}
 use Rattle.plant.specs.Plant.{requirement_of, lattice_of}
-use Rattle.choice.specs.Choice.{unset, choice}
+use Rattle.choice.specs.Choice.{unset, if_set, choice}
 use Rattle.choice.specs.Table.{group_choice}
 use Rattle.choice.proofs.Search.{search_choice}
 use Rattle.sets.specs.Members.{TakenFrom}
 use Rattle.calls.specs.Work.{NeedOf}
-use Rattle.calls.specs.Start.{SearchReads, stored_wish, EntryPut}
+use Rattle.calls.specs.Start.{SearchReads, stored_wish}
 use Rattle.calls.proofs.Groups.{seen}
 use Rattle.calls.proofs.Known.{known}
 use Rattle.calls.proofs.Made.{needed_there}
@@ -42,23 +43,15 @@ module _ {P : Plant} {levels : List ℕ} {s t : ℕ} (R : SearchReads P levels s
     pub level_low : level_for g ≢ unset → level_for g < 16
     level_low = known (level_for g) 16 (R.levels_known g l)
 
-    pub entry_left : {made : List ℕ} → level_for g ≡ unset → EntryPut P levels s t g made made
-    entry_left e = sym (rw (eq-eqb (level_for g) unset e))
-
-    pub entry_put : (made : List ℕ) → level_for g ≢ unset → {o : ℕ} → o ≡ group_choice P g (level_for g) → EntryPut P levels s t g made (set made (g * 16 + level_for g) o)
-    entry_put made n {o} e =
-        let c : o ≡ choice P g (stored_wish levels s t) = e ∙ search_choice P g (stored_wish levels s t) in
-        rw (ne_eqb (level_for g) unset n, c)
-
 -- what the loop knows when `rest` is left of the set
 module _ (P : Plant) (levels : List ℕ) (s t need : ℕ) where
-  pub record LookedSoFar (rest : ℕ) (made : List ℕ) : Type 0 where
+  pub record LookedSoFar (rest : ℕ) (made : List (Option ℕ)) : Type 0 where
     pub part : (g : ℕ) → bit rest g ≡ true → bit need g ≡ true
     pub size : length made ≡ 128
     pub entries : (g : ℕ) → seen need rest g ≡ true → stored_wish levels s t (requirement_of P g) ≢ unset
-        → get_or made (g * 16 + stored_wish levels s t (requirement_of P g)) 0 ≡ choice P g (stored_wish levels s t)
+        → get_or made (g * 16 + stored_wish levels s t (requirement_of P g)) None ≡ if_set (choice P g (stored_wish levels s t))
 
-module _ {P : Plant} {levels : List ℕ} {s t need rest : ℕ} {made : List ℕ} (v : LookedSoFar P levels s t need rest made) (R : SearchReads P levels s t) (n : NeedOf P t need) where
+module _ {P : Plant} {levels : List ℕ} {s t need rest : ℕ} {made : List (Option ℕ)} (v : LookedSoFar P levels s t need rest made) (R : SearchReads P levels s t) (n : NeedOf P t need) where
   abbrev level : ℕ → ℕ
   level g = stored_wish levels s t (requirement_of P g)
 
@@ -66,26 +59,32 @@ module _ {P : Plant} {levels : List ℕ} {s t need rest : ℕ} {made : List ℕ}
   low : (j : ℕ) → bit need j ≡ true → level j ≢ unset → level j < 16
   low j b = level_low R j (needed_there P t need n j b).0
 
-  -- one group is put in its place, and the entries of the others stay
-  pub looked_next : {g left : ℕ} → TakenFrom rest g left → {made' : List ℕ} → EntryPut P levels s t g made made' → LookedSoFar P levels s t need left made'
-  looked_next {g} {left} T {made'} e = record {
-    part = λ j b. v.part j (and_true (bit rest j) (not (eqb g j)) (sym (T.leaves j) ∙ b)).0;
-    size = split (eqb (level g) unset) (λ u. rw (e, u) v.size) (λ u. rw (e, u) (simp length-set v.size));
-    entries = λ j b x. split (eqb g j) (λ z. own j (eqb-true g j z) x) (λ z. other j z b x);
-  }
-    where
-      own : (j : ℕ) → g ≡ j → level j ≢ unset → get_or made' (j * 16 + level j) 0 ≡ choice P j (stored_wish levels s t)
-      own j z x = rw (← z) (let y : level g ≢ unset = rw z x in
-          rw (e, ne_eqb (level g) unset y)
-          (get_or-set_same made (g * 16 + level g) (choice P g (stored_wish levels s t)) 0
-          (let l = low g (v.part g T.was_in) y in let k = group_low R g (needed_there P t need n g (v.part g T.was_in)).0 in omega (arith, v.size))))
+  abbrev entry : List (Option ℕ) → ℕ → Option ℕ
+  entry xs j = get_or xs (j * 16 + level j) None
 
-      other : (j : ℕ) → eqb g j ≡ false → seen need left j ≡ true → level j ≢ unset → get_or made' (j * 16 + level j) 0 ≡ choice P j (stored_wish levels s t)
-      other j z b x =
-          let b' : seen need rest j ≡ true = rw (T.leaves j, z, bool.and-true (bit rest j)) at b in
-          split (eqb (level g) unset)
-          (λ u. rw (e, u) (v.entries j b' x))
-          (λ u. rw (e, u)
-          (get_or-set_other made (g * 16 + level g) (j * 16 + level j) (choice P g (stored_wish levels s t)) 0
-          (let k = low g (v.part g T.was_in) (eqb-false _ _ u) in let k' = low j (and_true (bit need j) (not (bit rest j)) b').0 x in let y = eqb-false g j z in omega arith)
-          ∙ v.entries j b' x))
+  -- group g is taken from the rest, and `left` is the rest without it
+  module _ {g left : ℕ} (T : TakenFrom rest g left) where
+    -- its entry is right after the step, and those of the others are as before
+    next : {made' : List (Option ℕ)} → length made' ≡ 128 → (level g ≢ unset → entry made' g ≡ if_set (choice P g (stored_wish levels s t)))
+        → ((j : ℕ) → eqb g j ≡ false → bit need j ≡ true → level j ≢ unset → entry made' j ≡ entry made j) → LookedSoFar P levels s t need left made'
+    next a b c = record {
+      part = λ j h. v.part j (and_true (bit rest j) (not (eqb g j)) (sym (T.leaves j) ∙ h)).0;
+      size = a;
+      entries = λ j h x. split (eqb g j)
+          (λ z. let e = eqb-true g j z in let y : level g ≢ unset = rw e x in rw (← e) (b y))
+          (λ z.
+          let k : seen need rest j ≡ true = rw (T.leaves j, z, bool.and-true (bit rest j)) at h in
+          c j z (and_true (bit need j) (not (bit rest j)) k).0 x ∙ v.entries j k x);
+    }
+
+    pub looked_passed : eqb (level g) unset ≡ true → LookedSoFar P levels s t need left made
+    looked_passed e = next v.size (λ x. absurd (x (eqb-true _ _ e))) (λ j z b x. refl)
+
+    pub looked_put : eqb (level g) unset ≡ false → {o : Option ℕ} → o ≡ if_set (group_choice P g (level g)) → LookedSoFar P levels s t need left (set made (g * 16 + level g) o)
+    looked_put f {o} e =
+        let b = v.part g T.was_in in
+        let k = group_low R g (needed_there P t need n g b).0 in
+        let l = low g b (eqb-false _ _ f) in
+        next (simp length-set v.size)
+        (λ x. get_or-set_same made (g * 16 + level g) o None (omega (arith, v.size)) ∙ e ∙ ap if_set (search_choice P g (stored_wish levels s t)))
+        (λ j z h x. get_or-set_other made (g * 16 + level g) (j * 16 + level j) o None (let l' = low j h x in let d = eqb-false g j z in omega arith))

@@ -48,7 +48,7 @@ pub record GrantReads (P : Plant) (granted chosen : List ℕ) (m : Monitor) : Ty
 
 -- What a list remembers of its plant from one request to the next: the table of choices, made at the first start that passes 26, and the groups
 -- that each task needs.
-pub record Tables (P : Plant) (made : Option (List ℕ)) (needs : List (Option ℕ)) : Type 0 where
+pub record Tables (P : Plant) (made : Option (List (Option ℕ))) (needs : List (Option ℕ)) : Type 0 where
   pub table : Tabled P made
   pub tasks : Needed P needs
 

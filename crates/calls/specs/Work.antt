@@ -1,6 +1,6 @@
 -- What the code keeps beside the record while it serves a list (rights granted, groups needed), and what a start looks for, group by group. Each
 -- has its law in proofs/: on a record that passes test 20 it is what the rules say.
-use Rattle.std.specs.Prelude.{◌≡◌, ℕ, ◌+◌, ◌*◌, ◌<◌, Bool, true, not, cond, ◌&&◌, ◌||◌, List, [], ◌∷◌, eqb, ltb, leb, get_or, length, replicate, Option, Some, None, IfSome, Result, Ok, Err, IfOk}
+use Rattle.std.specs.Prelude.{◌≡◌, ℕ, ◌+◌, ◌*◌, ◌<◌, Bool, true, not, cond, ◌&&◌, ◌||◌, List, [], ◌∷◌, eqb, ltb, leb, get_or, length, replicate, Option, None, is_none, unwrap_or, IfSome, Result, IfOk}
 use Rattle.base.specs.Below.{any_below}
 use Rattle.base.specs.Bits.{bit}
 use Rattle.base.specs.Chain.{Test, ◌gives◌, first}
@@ -8,7 +8,6 @@ use Rattle.base.specs.Fill.{fill}
 use Rattle.plant.specs.declared.Plant.{Plant}
 use Rattle.plant.specs.Right.{has_right}
 use Rattle.refusal.specs.declared.Refusal.{Refusal}
-use Rattle.refusal.specs.declared.Refusal.TheVariants.{LevelNotSet}
 use Rattle.refusal.specs.Number.{answer_of}
 use Rattle.rules.specs.Record.{level_at, chosen_at}
 
@@ -47,8 +46,8 @@ abbrev pub granted_in : List ℕ → List ℕ → List ℕ → ℕ → ℕ → �
 granted_in group granted chosen s o r = eqb (get_or chosen (chosen_at s (get_or group o 0)) 0) o && has_right (get_or granted (chosen_at s (get_or group o 0)) 0) r
 
 -- what a table of choices has for group g and level v
-abbrev pub made_at : List ℕ → ℕ → ℕ → ℕ
-made_at made g v = get_or made (g * 16 + v) 0
+abbrev pub made_at : List (Option ℕ) → ℕ → ℕ → Option ℕ
+made_at made g v = get_or made (g * 16 + v) None
 
 -- the groups on which task t names a right, as a set
 abbrev pub NeedIn : List ℕ → ℕ → ℕ → ℕ → Type 0
@@ -76,22 +75,18 @@ wish_in requirement levels s t g = get_or levels (level_at s t (get_or requireme
 abbrev pub blank_in : List ℕ → List ℕ → ℕ → ℕ → (ℕ → Bool) → ℕ → Bool
 blank_in requirement levels s t needed g = needed g && eqb (wish_in requirement levels s t g) 255
 
-module _ (found : ℕ → ℕ → ℕ) (requirement levels : List ℕ) (s t : ℕ) where
+module _ (found : ℕ → ℕ → Option ℕ) (requirement levels : List ℕ) (s t : ℕ) where
   -- the tank for the level of group g
-  abbrev pub found_in : ℕ → ℕ
+  abbrev pub found_in : ℕ → Option ℕ
   found_in g = found g (wish_in requirement levels s t g)
 
-  -- what is found at one group: that its level is unset, or its tank, if it has one
-  abbrev pub GroupDone : ℕ → Result (Option ℕ) Refusal → Type 0
-  GroupDone g outcome = outcome ≡ cond (eqb (wish_in requirement levels s t g) 255) (Err LevelNotSet) (Ok (cond (eqb (found_in g) 255) None (Some (found_in g))))
-
   module _ (needed : ℕ → Bool) where
-    -- a group that is needed has no tank; and its tank, none where it is not needed
+    -- a group that is needed has no tank; and its tank as the row has it, 255 where it has none or is not needed
     abbrev pub lacking_in : ℕ → Bool
-    lacking_in g = needed g && eqb (found_in g) 255
+    lacking_in g = needed g && is_none (found_in g)
 
     abbrev pub pick_in : ℕ → ℕ
-    pick_in g = cond (needed g) (found_in g) 255
+    pick_in g = cond (needed g) (unwrap_or (found_in g) 255) 255
 
     abbrev pub row_in : ℕ → List ℕ
     row_in groups = fill pick_in (replicate 8 255) groups

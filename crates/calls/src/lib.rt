@@ -129,7 +129,7 @@ impl From<Call> for Request {
 #[derive(Clone, Copy)]
 pub struct Kept {
     // None until a start makes it.
-    pub made: Option<[u8; 128]>,
+    pub made: Option<[Option<u8>; 128]>,
     // None until a start of the task makes it.
     pub needs: [Option<u16>; 16],
     pub granted: [u8; 64],

@@ -1,33 +1,35 @@
 // The table of the choices for each group and level.
-// The length of the table is a clause, since the clauses speak of it as a list.
+// The bound of an index is a clause and no type: a type would be made of a number at each call and taken apart at each array.
 #![tactic(auto)]
 
-ghost use Rattle.std.specs.Prelude.{◌≡◌, ◌<◌, length};
+ghost use Rattle.std.specs.Prelude.{◌<◌};
 ghost use Rattle.choice.specs.Table.{Linked, ChoicesIn, Put};
 
 use nearest::{nearest_for, places_of};
 use plant::Plant;
-use sets::byte_where;
+use sets::has;
 
 // Tank o goes to the entries of its group g for the levels of the set `near`. The loop has a fixed length, as in `above_in`.
-fn put_choices(made: &mut [u8; 128], g: usize, near: u16, o: u8)
-    requires { (g < 8) × (length made.old ≡ 128) }
+fn put_choices(made: &mut [Option<u8>; 128], g: usize, near: u16, o: u8)
+    requires { g < 8 }
     ensures { Put g near o made.old made.new }
 {
     for v in 0..16 {
-        let k = g * 16 + v;
-        made[k] = byte_where(near, v, o, made[k]);
+        if has(near, v) {
+            made[g * 16 + v] = Some(o);
+        }
     }
 }
 
-// The choice from each group under each level, at g * 16 + v: 255 where no tank of the group is at or under the level. The tanks go from the highest
-// number down, so that the lowest is written last.
-pub fn make_choices(p: &Plant) -> [u8; 128]
+// The choice from each group under each level, at g * 16 + v, where a tank of the group is at or under the level. The tanks go from the highest number
+// down, so that the lowest is written last. It is not inlined: a list calls it once, and its loops would take registers from each request.
+#[inline(never)]
+pub fn make_choices(p: &Plant) -> [Option<u8>; 128]
     requires { Linked p.now }
     ensures { ChoicesIn p.now result }
 {
     let places = places_of(p);
-    let mut made = [255u8; 128];
+    let mut made = [None; 128];
     for o in (0..p.tanks).rev() {
         let i = usize::from(o);
         let g = usize::from(p.tank_group[i]);

@@ -2,16 +2,20 @@
 // The bound of an index is a clause and no type: a type would be made of a number at each call and taken apart at each array.
 #![tactic(auto)]
 
-ghost use Rattle.std.specs.Prelude.{◌≡◌, true, ◌<◌, ◌≤◌};
+ghost use Rattle.std.specs.Prelude.{◌≡◌, ◌<◌, ◌≤◌};
 ghost use Rattle.base.specs.Bits.{bit};
 ghost use Rattle.plant.specs.Plant.{requirement_of};
-ghost use Rattle.calls.specs.Work.{level_known, made_at, NeedOf, Needed, Reached, GroupDone, RowDone};
+ghost use Rattle.choice.specs.Choice.{if_set};
+ghost use Rattle.calls.specs.Work.{made_at, wish_in, NeedOf, Needed, Reached, RowDone};
 
 use plant::Plant;
 use refusal::Refusal;
+use rules::Monitor;
 use sets::{Members, with_one};
 
-// The groups on which task t names a right, as a set.
+// The groups on which task t names a right, as a set. It is not inlined: a list calls it once for each task, and its loop would take registers from
+// each request.
+#[inline(never)]
 pub fn need_of(p: &Plant, t: usize) -> u16
     requires { (t < 16) × (p.now.groups ≤ 8) }
     ensures { NeedOf p.now t result }
@@ -39,49 +43,38 @@ pub fn need_once(p: &Plant, needs: &mut [Option<u16>; 16], t: usize) -> u16
     need
 }
 
-// The tank of a group g that a start needs, if one is at or under the skid's level.
-fn choose_at(
-    p: &Plant,
-    levels: &[u8; 1024],
-    made: &[u8; 128],
-    s: usize,
-    t: usize,
-    g: usize,
-) -> Result<Option<u8>, Refusal>
+// The level that the skid has in the task for the requirement of group g, if it is set.
+pub fn level_for(m: &Monitor, s: usize, t: usize, g: usize) -> Option<usize>
     requires s_bound { (s < 8) × (t < 16) × (g < 8) }
-    requires g_bound { (requirement_of p.now g < 8) × (level_known levels.now s t (requirement_of p.now g) ≡ true) }
-    ensures { GroupDone (made_at made.now) p.now.group_requirement levels.now s t g result }
+    requires g_bound { requirement_of m.now.plant g < 8 }
+    ensures { result ≡ if_set (wish_in m.now.plant.group_requirement m.now.levels s t g) }
 {
-    let d = usize::from(p.group_requirement[g]);
-    let v = levels[(s * 16 + t) * 8 + d];
-    if v == 255 {
-        return Err(Refusal::LevelNotSet);
-    }
-    let o = made[g * 16 + usize::from(v)];
-    if o == 255 {
-        return Ok(None);
-    }
-    Ok(Some(o))
+    let d = usize::from(m.plant.group_requirement[g]);
+    let v = m.levels[(s * 16 + t) * 8 + d];
+    if v == 255 { None } else { Some(usize::from(v)) }
 }
 
-// The skid's row of choices for the groups of the set `need`. A level that is not set in any group comes before a tank that is missing in any, so
-// that the first alone ends the loop. It goes from group to group of the set, since which groups a task needs cannot be predicted.
+// The skid's row of choices for the groups of the set `need`; the others have 255, as the record does, which C reads. A level that is not set in any
+// group comes before a tank that is missing in any, so that the first alone ends the loop. It goes from group to group of the set, since which groups
+// a task needs cannot be predicted.
 pub fn choose_row(
-    p: &Plant,
-    levels: &[u8; 1024],
-    made: &[u8; 128],
+    m: &Monitor,
+    made: &[Option<u8>; 128],
     s: usize,
     t: usize,
     need: u16,
 ) -> Result<[u8; 8], Refusal>
     requires s_bound { (s < 8) × (t < 16) }
-    requires reached { Reached p.now.group_requirement levels.now s t need }
-    ensures { RowDone (made_at made.now) p.now.group_requirement levels.now s t (bit need) 8 result }
+    requires reached { Reached m.now.plant.group_requirement m.now.levels s t need }
+    ensures { RowDone (made_at made.now) m.now.plant.group_requirement m.now.levels s t (bit need) 8 result }
 {
     let mut row = [255u8; 8];
     let mut lacking = false;
     for g in Members::of(need) {
-        match choose_at(p, levels, made, s, t, g)? {
+        let Some(v) = level_for(m, s, t, g) else {
+            return Err(Refusal::LevelNotSet);
+        };
+        match made[g * 16 + v] {
             Some(o) => row[g] = o,
             None => lacking = true,
         }

@@ -3,15 +3,18 @@
 // What `places` has of the tanks is a clause of each step, since it is a fact of the set and of the plant together.
 #![tactic(auto)]
 
-ghost use Rattle.std.specs.Prelude.{◌≡◌, ◌<◌, length, unwrap_or};
+ghost use Rattle.std.specs.Prelude.{◌≡◌, ◌<◌};
 ghost use Rattle.plant.specs.Plant.{requirement_of, lattice_of};
+ghost use Rattle.choice.specs.Choice.{if_set};
 ghost use Rattle.choice.specs.Search.{nearest_in};
 ghost use Rattle.choice.specs.Table.{TanksThere, PlacesOf, group_choice};
 ghost use Rattle.calls.specs.Work.{NeedOf};
-ghost use Rattle.calls.specs.Start.{SearchReads, EntryPut, Looked};
+ghost use Rattle.calls.specs.Start.{SearchReads, Looked};
 
+use chosen::level_for;
 use nearest::{nearest_for, places_of};
 use plant::Plant;
+use rules::Monitor;
 use sets::{Members, has};
 
 // Whether tank o is nearest in group g, whose requirement has lattice l, for level v. `places` has the levels at which the group has a tank.
@@ -36,53 +39,25 @@ fn choice_from(p: &Plant, places: u16, g: usize, v: usize) -> Option<u8>
     requires links { (requirement_of p.now g < 8) × (lattice_of p.now (requirement_of p.now g) < 8) }
     requires tanks { TanksThere p.now }
     requires places { PlacesOf p.now g places }
-    ensures { unwrap_or result 255 ≡ group_choice p.now g v }
+    ensures { result ≡ if_set (group_choice p.now g v) }
 {
     let l = usize::from(p.requirement_lattice[usize::from(p.group_requirement[g])]);
     (0..p.tanks).find(|&o| is_nearest(p, places, l, g, v, usize::from(o)))
 }
 
-// The choice from group g under the level that the skid has for its requirement goes to its entry, 255 for none; it is left alone where the level is
-// unset.
-fn put_choice(
-    p: &Plant,
-    levels: &[u8; 1024],
-    made: &mut [u8; 128],
-    places: u16,
-    s: usize,
-    t: usize,
-    g: usize,
-)
-    requires reads { SearchReads p.now levels.now s t }
-    requires group { g < p.now.groups }
-    requires places { PlacesOf p.now g places }
-    requires made_len { length made.old ≡ 128 }
-    ensures { EntryPut p.now levels.now s t g made.old made.new }
+// The choices for the groups of the set `need`, each in the entry of its group and of the level that the skid has; the others are none. A group whose
+// level is unset has none.
+pub fn choices_for(m: &Monitor, s: usize, t: usize, need: u16) -> [Option<u8>; 128]
+    requires reads { SearchReads m.now.plant m.now.levels s t }
+    requires need { NeedOf m.now.plant t need }
+    ensures { Looked m.now.plant m.now.levels s t result }
 {
-    let v = levels[(s * 16 + t) * 8 + usize::from(p.group_requirement[g])];
-    if v == 255 {
-        return;
-    }
-    let v = usize::from(v);
-    made[g * 16 + v] = choice_from(p, places, g, v).unwrap_or(255);
-}
-
-// The same for each group of the set `need`.
-pub fn put_choices_for(
-    p: &Plant,
-    levels: &[u8; 1024],
-    made: &mut [u8; 128],
-    need: u16,
-    s: usize,
-    t: usize,
-)
-    requires reads { SearchReads p.now levels.now s t }
-    requires need { NeedOf p.now t need }
-    requires made_len { length made.old ≡ 128 }
-    ensures { Looked p.now levels.now s t made.new }
-{
-    let places = places_of(p);
+    let places = places_of(&m.plant);
+    let mut made = [None; 128];
     for g in Members::of(need) {
-        put_choice(p, levels, made, places[g], s, t, g);
+        if let Some(v) = level_for(m, s, t, g) {
+            made[g * 16 + v] = choice_from(&m.plant, places[g], g, v);
+        }
     }
+    made
 }

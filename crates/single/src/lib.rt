@@ -13,7 +13,7 @@ use chosen::need_of;
 use gates::gate_at;
 use refusal::{Refusal, answer, gate_answer};
 use rules::Monitor;
-use search::put_choices_for;
+use search::choices_for;
 use starts::{start_early, start_late};
 use steps::{set_at, stop_at};
 
@@ -22,17 +22,9 @@ fn start_alone(m: &mut Monitor, s: u8, t: u8) -> Result<(), Refusal>
     requires { intact m.old.plant m.old ≡ true }
     ensures { Does m.old (start s t) (answer_of result) m.new }
 {
-    start_early(&m.plant, &m.running, s, t)?;
+    start_early(m, s, t)?;
     let need = need_of(&m.plant, usize::from(t));
-    let mut made = [255; 128];
-    put_choices_for(
-        &m.plant,
-        &m.levels,
-        &mut made,
-        need,
-        usize::from(s),
-        usize::from(t),
-    );
+    let made = choices_for(m, usize::from(s), usize::from(t), need);
     start_late(m, &made, s, t, need)
 }
 

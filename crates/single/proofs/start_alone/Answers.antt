@@ -21,18 +21,18 @@ need_of-need-requires c =
     let there = passed _ _ _ _ c.args.s c.args.t c.in_ok-start_early.ensures refl in
     rw c.from.ensures (lt_of_lt_of_le there.1 f.tasks_fit, f.groups_fit)
 
-pub put_choices_for-requires-clause-reads : goal.put_choices_for-requires-clause-reads
-put_choices_for-requires-clause-reads c =
+pub choices_for-made-requires-clause-reads : goal.choices_for-made-requires-clause-reads
+choices_for-made-requires-clause-reads c =
     let there = passed _ _ _ _ c.args.s c.args.t c.in_ok-start_early.ensures refl in
     rw (c.from-2.ensures, c.from-3.ensures) (own_search _ c.requires c.args.s c.args.t there)
 
-pub put_choices_for-requires-clause-need : goal.put_choices_for-requires-clause-need
-put_choices_for-requires-clause-need c = rw (c.from-3.ensures, ← c.from.ensures) c.need_of-need.ensures
+pub choices_for-made-requires-clause-need : goal.choices_for-made-requires-clause-need
+choices_for-made-requires-clause-need c = rw (c.from-3.ensures, ← c.from.ensures) c.need_of-need.ensures
 
 pub start_late-requires-clause-reads : goal.start_late-requires-clause-reads
 start_late-requires-clause-reads c =
     let there = passed _ _ _ _ c.args.s c.args.t c.in_ok-start_early.ensures refl in
-    own_late _ c.requires c.args.s c.args.t there (rw (c.from-2.ensures, c.from-3.ensures) at c.put_choices_for.ensures)
+    own_late _ c.requires c.args.s c.args.t there (rw (c.from-2.ensures, c.from-3.ensures) at c.choices_for-made.ensures)
 
 pub start_late-requires-clause-need : goal.start_late-requires-clause-need
 start_late-requires-clause-need c = rw (← c.from.ensures) c.need_of-need.ensures

@@ -1,5 +1,8 @@
 -- The early tests, and the row and its number, are the rules': where a start before has made the choices, and where this one makes them.
-use Rattle.std.proofs.Common.{refl}
+use Rattle.std.proofs.Common.{refl, ◌≡◌, ℕ, List}
+use Rattle.std.specs.Prelude.{Option, Some, None, MatchOption}
+use Rattle.plant.specs.declared.Plant.{Plant}
+use Rattle.choice.specs.Table.{ChoicesIn, Tabled}
 use native.Mathlib.Nat.{lt_of_lt_of_le}
 use Rattle.refusal.proofs.NotZero.{handed_on, not_0}
 use Rattle.choice.proofs.Linked.{linked}
@@ -24,23 +27,19 @@ need_once-need-requires-clause-t_bound c =
     let there = passed _ _ _ _ c.args.s c.args.t c.in_ok-start_early.ensures refl in
     rw c.from.ensures (lt_of_lt_of_le there.1 f.tasks_fit, f.groups_fit)
 
+pub get_or_insert_with-choices-requires : goal.get_or_insert_with-choices-requires
+get_or_insert_with-choices-requires c = λ e. linked _ (plant_valid _ c.requires.passes_test_20)
+
+-- the table, made before or here
+tabled : {P : Plant} (made : Option (List (Option ℕ))) {choices : List (Option ℕ)} → Tabled P made → MatchOption made (ChoicesIn P choices) (λ x. choices ≡ x) → ChoicesIn P choices
+tabled None t e = e
+tabled (Some x) t e = rw e t
+
 pub start_late-requires-clause-reads : goal.start_late-requires-clause-reads
 start_late-requires-clause-reads c =
     let i = c.requires.passes_test_20 in
     let there = passed _ _ _ _ c.args.s c.args.t c.in_ok-start_early.ensures refl in
-    own_late _ i c.args.s c.args.t there (table_looked (own_search _ i c.args.s c.args.t there) (rw c.in-Some.is at c.requires.tables.table))
+    own_late _ i c.args.s c.args.t there (table_looked (own_search _ i c.args.s c.args.t there) (tabled _ c.requires.tables.table c.get_or_insert_with-choices.ensures.cases))
 
-pub make_choices-choices-requires : goal.make_choices-choices-requires
-make_choices-choices-requires c = linked _ (plant_valid _ c.requires.passes_test_20)
-
-pub start_late-requires-in-None-clause-reads : goal.start_late-requires-in-None-clause-reads
-start_late-requires-in-None-clause-reads c =
-    let i = c.requires.passes_test_20 in
-    let there = passed _ _ _ _ c.args.s c.args.t c.in_ok-start_early.ensures refl in
-    own_late _ i c.args.s c.args.t there (table_looked (own_search _ i c.args.s c.args.t there) c.make_choices-choices.ensures)
-
-pub returns-in-Some-clause-does : goal.returns-in-Some-clause-does
-returns-in-Some-clause-does c = done_late _ c.requires.passes_test_20 c.args.s c.args.t c.in_ok-start_early.ensures refl c.start_late.ensures
-
-pub returns-in-None-clause-does : goal.returns-in-None-clause-does
-returns-in-None-clause-does c = done_late _ c.requires.passes_test_20 c.args.s c.args.t c.in_ok-start_early.ensures refl c.start_late-in-None.ensures
+pub returns-clause-does : goal.returns-clause-does
+returns-clause-does c = done_late _ c.requires.passes_test_20 c.args.s c.args.t c.in_ok-start_early.ensures refl c.start_late.ensures
