@@ -7,8 +7,7 @@ use mathlib.Core.List.{List}
 use native.Mathlib.Omega.{arith}
 use native.Mathlib.Decide.{ℕ_discrete}
 use lib.Dec.{eqb, ltb}
-use lib.ListN.{get_or, set, replicate, get_or-replicate, length-replicate, length-set}
-use lib.Seq.{get_or-set_same, get_or-set_other}
+use lib.ListN.{get_or, replicate, get_or-replicate, length-replicate}
 use borrow.Author.Tests.{eq-eqb, ne_eqb, ltb-true, lt-ltb, le-ltb}
 use Rattle.std.specs.Prelude.{Option, None, Some}
 use Rattle.base.specs.Below.{any_below}
@@ -52,16 +51,6 @@ module _ (rights : List ℕ) (t : ℕ) where
     | yes z ↦ rw (z, n) (and-false (ltb g g) ∙ sym (and-false (ltb g (g + 1))))
     | no z ↦ rw (next_but_own j g z)
   ]
-
--- the set of a task, put in its place
-pub need_put : (P : Plant) (needs : List (Option ℕ)) (t need : ℕ) → t < 16 → Needed P needs → NeedOf P t need → Needed P (set needs t (Some need))
-need_put P needs t need l n h = record {
-  size = simp length-set n.size;
-  right = λ u m. elim (ℕ_discrete u t) [
-    | yes z ↦ rw (z, get_or-set_same needs t (Some need) None (omega (arith, l, n.size))) h
-    | no z ↦ rw (get_or-set_other needs t u (Some need) None (omega arith)) (n.right u m)
-  ];
-}
 
 -- the groups of the set are those that the task needs
 pub needed_there : (P : Plant) (t need : ℕ) → NeedOf P t need → (g : ℕ) → bit need g ≡ true → NeedsAt P t g

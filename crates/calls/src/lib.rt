@@ -140,23 +140,17 @@ impl Kept {
     }
 }
 
-// The refusal of the first of three items that is missing. The three are tested at once before, so that a call whose items are there asks once.
-pub fn check_items(missing: [(bool, Refusal); 3]) -> Result<(), Refusal>
+// The refusal of the first of three items that is missing; `missing` has that of each that is. The three are tested at once before, so that a call
+// whose items are there asks once.
+pub fn check_present(missing: [Option<Refusal>; 3]) -> Result<(), Refusal>
     ensures { answer_of result ≡ first (map missing_item missing) }
 {
-    let [
-        (first, first_refusal),
-        (second, second_refusal),
-        (third, third_refusal),
-    ] = missing;
-    if !(first | second | third) {
+    let [first, second, third] = missing;
+    if !(first.is_some() | second.is_some() | third.is_some()) {
         return Ok(());
     }
-    if first {
-        return Err(first_refusal);
+    match first.or(second).or(third) {
+        Some(refusal) => Err(refusal),
+        None => Ok(()),
     }
-    if second {
-        return Err(second_refusal);
-    }
-    Err(third_refusal)
 }

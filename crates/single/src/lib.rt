@@ -49,12 +49,10 @@ pub fn call_at(m: &mut Monitor, r: Request) -> u8
                 requirement,
                 level,
             },
-        ) => answer(set_at(&m.plant, &mut m.levels, skid, task, requirement, level)),
+        ) => answer(set_at(m, skid, task, requirement, level)),
         Ok(Call::Start { skid, task }) => answer(start_alone(m, skid, task)),
-        Ok(Call::Stop { skid }) => answer(stop_at(&m.plant, &mut m.running, &mut m.chosen, skid)),
-        Ok(Call::Gate { skid, tank, right }) => gate_answer(gate_at(
-            &m.plant, &m.running, &m.chosen, skid, tank, right,
-        )),
+        Ok(Call::Stop { skid }) => answer(stop_at(m, skid)),
+        Ok(Call::Gate { skid, tank, right }) => gate_answer(gate_at(m, skid, tank, right)),
         Err(refusal) => refusal.number(),
     }
 }

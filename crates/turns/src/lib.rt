@@ -34,7 +34,7 @@ fn stop_kept(m: &mut Monitor, kept: &mut Kept, s: u8) -> Result<(), Refusal>
     ensures does { Does m.old (stop s) (answer_of result) m.new }
     ensures keeps { Keeps m.new kept.new }
 {
-    stop_at(&m.plant, &mut m.running, &mut m.chosen, s)?;
+    stop_at(m, s)?;
     put_row(&mut kept.granted, usize::from(s), &[0; 8]);
     Ok(())
 }
@@ -55,13 +55,12 @@ pub fn turn(m: &mut Monitor, kept: &mut Kept, r: Request) -> u8
                 requirement,
                 level,
             },
-        ) => answer(set_at(&m.plant, &mut m.levels, skid, task, requirement, level)),
+        ) => answer(set_at(m, skid, task, requirement, level)),
         Ok(Call::Start { skid, task }) => answer(start_kept(m, kept, skid, task)),
         Ok(Call::Stop { skid }) => answer(stop_kept(m, kept, skid)),
         Ok(Call::Gate { skid, tank, right }) => gate_answer(gate_granted(
-            &m.plant,
+            m,
             &kept.granted,
-            &m.chosen,
             skid,
             tank,
             right,
