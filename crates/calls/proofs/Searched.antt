@@ -9,11 +9,11 @@ use mathlib.Core.List.{List}
 use lib.Dec.{eqb}
 use lib.ListN.{length, get_or, set, length-set}
 use lib.Seq.{get_or-set_same, get_or-set_other}
-use borrow.Author.Tests.{eqb-true, eqb-false, eq-eqb, ne_eqb}
+use borrow.Author.Tests.{eqb-true, eqb-false, ne_eqb}
 use Rattle.base.specs.Bits.{bit}
 use Rattle.base.proofs.Logic.{split, and_true}
 use Rattle.plant.specs.declared.Plant.{Plant}
-use Rattle.plant.specs.Plant.{requirement_of, lattice_of}
+use Rattle.plant.specs.Plant.{requirement_of}
 use Rattle.choice.specs.Choice.{unset, choice}
 use Rattle.choice.specs.Table.{group_choice}
 use Rattle.choice.proofs.Search.{search_choice}
@@ -33,17 +33,8 @@ module _ {P : Plant} {levels : List ℕ} {s t : ℕ} (R : SearchReads P levels s
     pub group_low : g < 8
     group_low = omega (arith, R.valid.counts.groups_fit)
 
-    pub requirement_low : requirement_of P g < 8
-    requirement_low = omega (arith, R.valid.req_in g l, R.valid.counts.requirements_fit)
-
-    pub lattice_low : lattice_of P (requirement_of P g) < 8
-    lattice_low = omega (arith, R.valid.lattice_in (requirement_of P g) (R.valid.req_in g l), R.valid.counts.lattices_fit)
-
     pub level_low : level_for g ≢ unset → level_for g < 16
     level_low = known (level_for g) 16 (R.levels_known g l)
-
-    pub entry_left : {made : List ℕ} → level_for g ≡ unset → EntryPut P levels s t g made made
-    entry_left e = sym (rw (eq-eqb (level_for g) unset e))
 
     pub entry_put : (made : List ℕ) → level_for g ≢ unset → {o : ℕ} → o ≡ group_choice P g (level_for g) → EntryPut P levels s t g made (set made (g * 16 + level_for g) o)
     entry_put made n {o} e =

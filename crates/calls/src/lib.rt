@@ -117,13 +117,15 @@ impl From<Call> for Request {
 }
 
 // What a list keeps beside its record, from one request to the next: the table of choices, the groups of each task, and the rights of the tasks that
-// run.
+// run. The three go by different items, so that no two of them are one array.
 #[derive(Clone, Copy)]
 pub struct Kept {
     // None until a start makes it.
     pub made: Option<[u8; 128]>,
     // None until a start of the task makes it.
     pub needs: [Option<u16>; 16],
+    // Those of skid s on group g are at s * 8 + g, as the record has the tank chosen there: one place serves a gate for both, and `put_row` (crate
+    // steps) writes a row of either. By rows, `[[u8; 8]; 8]`, there would be two of each.
     pub granted: [u8; 64],
 }
 

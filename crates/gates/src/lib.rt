@@ -26,7 +26,8 @@ fn check_gate(p: &Plant, s: u8, o: u8, r: u8) -> Result<(), Refusal>
     ])
 }
 
-// Gate by the record: whether the skid holds the right.
+// Gate by the record: whether the skid holds the right. It is `gate_granted` over another lookup: each of the two is its two lines, and over a lookup
+// that is passed in they would want its contract too.
 pub fn gate_at(m: &Monitor, s: u8, o: u8, r: u8) -> Result<bool, Refusal>
     requires { intact m.now.plant m.now ≡ true }
     ensures { Does m.now (gate s o r) (gate_answer_of result) m.now }
@@ -35,7 +36,7 @@ pub fn gate_at(m: &Monitor, s: u8, o: u8, r: u8) -> Result<bool, Refusal>
     Ok(is_held(m, usize::from(s), o, r))
 }
 
-// The same in a list, by the rights granted. Each of the two is its two lines: over a lookup that is passed in, they would want its contract too.
+// The same in a list, by the rights granted: `gate_at` over another lookup, with the reason there.
 pub fn gate_granted(m: &Monitor, granted: &[u8; 64], s: u8, o: u8, r: u8) -> Result<bool, Refusal>
     requires passes_test_20 { intact m.now.plant m.now ≡ true }
     requires granted { Granted m.now.plant.task_rights m.now.running m.now.plant.skids granted.now }
@@ -46,7 +47,7 @@ pub fn gate_granted(m: &Monitor, granted: &[u8; 64], s: u8, o: u8, r: u8) -> Res
 }
 
 // Whether skid s holds right r on tank o, by the rights granted. Both halves are read without a branch, since the processor cannot predict the
-// answer.
+// answer. `is_held` reads four arrays where this reads two, in steps that it may leave, so that the two share no line but the comparison.
 fn is_granted(m: &Monitor, granted: &[u8; 64], s: usize, o: u8, r: u8) -> bool
     requires s_bound { (s < 8) × (o < 64) }
     requires o_bound { get_or m.now.plant.tank_group o 0 < 8 }
@@ -58,7 +59,7 @@ fn is_granted(m: &Monitor, granted: &[u8; 64], s: usize, o: u8, r: u8) -> bool
 }
 
 // Whether skid s holds right r on tank o, by the record. A skid that runs nothing is asked no further, since the list of rights asks every tank of
-// every skid.
+// every skid; `is_granted` asks nothing before, and so is no case of this.
 pub fn is_held(m: &Monitor, s: usize, o: u8, r: u8) -> bool
     requires s_bound { (s < 8) × (o < 64) }
     requires o_bound { (get_or m.now.plant.tank_group o 0 < 8) × (task_known m.now.running s ≡ true) }

@@ -36,7 +36,8 @@ fn start_alone(m: &mut Monitor, s: u8, t: u8) -> Result<(), Refusal>
     start_late(m, &made, s, t, need)
 }
 
-// One request by itself. The answer is the byte that C and an answer buffer have.
+// One request by itself. The answer is the byte that C and an answer buffer have. The arms are those of a request of a list (`turn`, crate turns), which
+// reads and changes what the list keeps: a trait for the three that differ would be longer than they are.
 pub fn call_at(m: &mut Monitor, r: Request) -> u8
     requires { intact m.old.plant m.old ≡ true }
     ensures { Does m.old (call_by r.kind r.a r.b r.c r.d) result m.new }
