@@ -77,6 +77,11 @@ module _ (m : Monitor) {granted : List ℕ} (G : Granted m.plant.task_rights m.r
   unfolding rules.accepted_answer
   stop_refused s = refused_granted (stop s) refl
 
+  -- a set leaves the running tasks
+  pub set_granted : (s t d v : ℕ) {r : ℕ} {left : Monitor} → Does m (rules.set s t d v) r left → Granted m.plant.task_rights left.running m.plant.skids granted
+  unfolding stepped changed
+  set_granted s t d v w = rw w.leaves (split (eqb (refusal m.plant (view_of m.plant m) (rules.set s t d v)) 0) (λ h. rw h G) (λ h. rw h G))
+
   -- the call is accepted where its answer is 0
   zero : (c : Call) {r : ℕ} {left : Monitor} → Does m c r left → r ≡ 0 → refusal m.plant (view_of m.plant m) c ≡ 0
   unfolding answer

@@ -1,27 +1,22 @@
 -- What a list remembers, which is not made at first; and a row looked up by it is the row of the choices. Assumes nothing.
-use mathlib.Core.Path.{◌≡◌, refl, sym, ap, ◌∙◌}
-use mathlib.Core.Logic.{◌≢◌}
-use Prim.Native.Nat.{ℕ, ◌+◌, ◌*◌, ◌<◌, ◌≤◌}
-use mathlib.Core.Bool.{Bool, true, ◌&&◌, ◌||◌, and-false, and_assoc, or-false}
-use mathlib.Core.List.{List}
+use mathlib.Core.Path.{◌≡◌, sym, ap, ◌∙◌}
+use Prim.Native.Nat.{ℕ, ◌<◌, ◌≤◌}
+use mathlib.Core.Bool.{Bool, true, ◌&&◌, and_assoc}
 use native.Mathlib.Omega.{arith}
-use native.Mathlib.Decide.{ℕ_discrete}
-use lib.Dec.{eqb, ltb}
-use lib.ListN.{get_or, set, replicate, get_or-replicate, length-replicate, length-set}
-use lib.Seq.{get_or-set_same, get_or-set_other}
-use borrow.Author.Tests.{eq-eqb, ne_eqb, ltb-true, lt-ltb, le-ltb}
-use Rattle.std.specs.Prelude.{Option, None, Some}
+use lib.Dec.{ltb}
+use lib.ListN.{replicate, get_or-replicate, length-replicate}
+use borrow.Author.Tests.{ltb-true}
+use Rattle.std.specs.Prelude.{Option, None}
 use Rattle.base.specs.Below.{any_below}
 use Rattle.base.specs.Bits.{bit}
-use Rattle.base.proofs.Logic.{and_true, or_right}
-use Rattle.base.proofs.Below.{all_at, any_same, any_upto, next_but_own}
-use Rattle.base.proofs.Bits.{zero_bit}
+use Rattle.base.proofs.Logic.{and_true}
+use Rattle.base.proofs.Below.{all_at, any_same, any_upto}
 use Rattle.plant.specs.declared.Plant.{Plant}
 use Rattle.plant.specs.Plant.{needs}
 use Rattle.rules.specs.declared.Monitor.{Monitor}
 use Rattle.rules.specs.Record.{intact}
 use Rattle.calls.specs.Lent.{Tables}
-use Rattle.calls.specs.Work.{needs_in, NeedIn, NeedOf, Needed, wish_known, wish_in, Reached}
+use Rattle.calls.specs.Work.{needs_in, NeedOf, wish_known, wish_in, Reached}
 use Rattle.calls.specs.Start.{NeedsAt}
 use Rattle.calls.proofs.Ready.{plant_valid, wishes_known}
 
@@ -29,33 +24,6 @@ pub none_made : (P : Plant) → Tables P None (replicate 16 None)
 none_made P = record {
   table = tt;
   tasks = record { size = length-replicate {A = Option ℕ} 16 None; right = λ t l. rw (get_or-replicate {A = Option ℕ} 16 t None None l) tt };
-}
-
--- the set of a task, group by group
-module _ (rights : List ℕ) (t : ℕ) where
-  pub need_starts : NeedIn rights t 0 0
-  need_starts j = rw (le-ltb j 0 (omega arith)) (zero_bit j)
-
-  pub need_with : (g need r : ℕ) → get_or rights (t * 8 + g) 0 ≢ 0 → NeedIn rights t g need → ((j : ℕ) → bit r j ≡ bit need j || eqb g j) → NeedIn rights t (g + 1) r
-  need_with g need r n h e j = e j ∙ rw (h j) (elim (ℕ_discrete j g) [
-    | yes z ↦ rw (z, eq-eqb g g refl, lt-ltb g (g + 1) (omega arith), ne_eqb _ _ n) (or_right (ltb g g && true) true refl)
-    | no z ↦ rw (ne_eqb g j (λ q. z (sym q)), ← next_but_own j g z) (or-false _)
-  ])
-
-  pub need_without : (g need : ℕ) → get_or rights (t * 8 + g) 0 ≡ 0 → NeedIn rights t g need → NeedIn rights t (g + 1) need
-  need_without g need n h j = h j ∙ elim (ℕ_discrete j g) [
-    | yes z ↦ rw (z, n) (and-false (ltb g g) ∙ sym (and-false (ltb g (g + 1))))
-    | no z ↦ rw (next_but_own j g z)
-  ]
-
--- the set of a task, put in its place
-pub need_put : (P : Plant) (needs : List (Option ℕ)) (t need : ℕ) → t < 16 → Needed P needs → NeedOf P t need → Needed P (set needs t (Some need))
-need_put P needs t need l n h = record {
-  size = simp length-set n.size;
-  right = λ u m. elim (ℕ_discrete u t) [
-    | yes z ↦ rw (z, get_or-set_same needs t (Some need) None (omega (arith, l, n.size))) h
-    | no z ↦ rw (get_or-set_other needs t u (Some need) None (omega arith)) (n.right u m)
-  ];
 }
 
 -- the groups of the set are those that the task needs

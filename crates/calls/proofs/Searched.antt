@@ -14,7 +14,7 @@ use Rattle.std.specs.Prelude.{Option, None}
 use Rattle.base.specs.Bits.{bit}
 use Rattle.base.proofs.Logic.{split, and_true}
 use Rattle.plant.specs.declared.Plant.{Plant}
-use Rattle.plant.specs.Plant.{requirement_of, lattice_of}
+use Rattle.plant.specs.Plant.{requirement_of}
 use Rattle.choice.specs.Choice.{unset, if_set, choice}
 use Rattle.choice.specs.Table.{group_choice}
 use Rattle.choice.proofs.Search.{search_choice}
@@ -33,12 +33,6 @@ module _ {P : Plant} {levels : List ℕ} {s t : ℕ} (R : SearchReads P levels s
   module _ (g : ℕ) (l : g < P.groups) where
     pub group_low : g < 8
     group_low = omega (arith, R.valid.counts.groups_fit)
-
-    pub requirement_low : requirement_of P g < 8
-    requirement_low = omega (arith, R.valid.req_in g l, R.valid.counts.requirements_fit)
-
-    pub lattice_low : lattice_of P (requirement_of P g) < 8
-    lattice_low = omega (arith, R.valid.lattice_in (requirement_of P g) (R.valid.req_in g l), R.valid.counts.lattices_fit)
 
     pub level_low : level_for g ≢ unset → level_for g < 16
     level_low = known (level_for g) 16 (R.levels_known g l)

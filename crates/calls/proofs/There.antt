@@ -1,7 +1,16 @@
--- A right that is not there. Assumes nothing.
-use mathlib.Core.Path.{◌≡◌, sym, ap, ◌∙◌}
+-- An item that is not there: a right, and the first of three. Assumes nothing.
+use mathlib.Core.Path.{◌≡◌, refl, sym, ap, ◌∙◌}
 use Prim.Native.Nat.{ℕ}
-use mathlib.Core.Bool.{Bool, not}
+use mathlib.Core.Bool.{Bool, true, false, not}
+use mathlib.Core.List.{List, [], ◌∷◌, map}
+use lib.ListN.{get_or}
+use Rattle.std.specs.Prelude.{Option, None, Some}
+use Rattle.std.specs.Bool.{then_some}
+use Rattle.std.specs.Option.{option_or}
+use Rattle.base.specs.Chain.{◌gives◌, first}
+use Rattle.refusal.specs.declared.Refusal.{Refusal}
+use Rattle.refusal.specs.Number.{number_of}
+use Rattle.calls.specs.Requests.{missing_item}
 use lib.Dec.{leb}
 use borrow.Author.Tests.{leb-true, leb-false, lt-leb, le-leb}
 use native.Mathlib.Omega.{arith}
@@ -11,3 +20,26 @@ use Rattle.plant.specs.Right.{rights, valid_right}
 -- what is no right
 pub no_right : (r : ℕ) {x : Bool} → x ≡ valid_right r → not x ≡ leb rights r
 no_right r e = ap not e ∙ split (leb r 2) (λ h. rw h (sym (lt-leb 3 r (omega (arith, leb-true r 2 h))))) (λ h. rw h (sym (le-leb 3 r (leb-false r 2 h))))
+
+-- of three items the first that is missing
+pub first_there : (l : List (Option Refusal)) {x : Refusal} → Some x ≡ option_or (option_or (get_or l 0 None) (get_or l 1 None)) (get_or l 2 None)
+    → number_of x ≡ first (map missing_item l)
+first_there [] e = cc
+first_there (Some y ∷ l) e = cc
+first_there (None ∷ []) e = cc
+first_there (None ∷ Some y ∷ l) e = cc
+first_there (None ∷ None ∷ []) e = cc
+first_there (None ∷ None ∷ Some y ∷ l) e = cc
+first_there (None ∷ None ∷ None ∷ l) e = cc
+
+-- three tests of items, each with its refusal
+three_tested : (a b c : Bool) (x y z : Refusal)
+    → first (map missing_item (then_some a x ∷ then_some b y ∷ then_some c z ∷ [])) ≡ first (a gives number_of x ∷ b gives number_of y ∷ c gives number_of z ∷ [])
+three_tested true b c x y z = refl
+three_tested false true c x y z = refl
+three_tested false false true x y z = refl
+three_tested false false false x y z = refl
+
+pub three_items : (a b c : Bool) (x y z : Refusal) {o p q : Option Refusal} → o ≡ then_some a x → p ≡ then_some b y → q ≡ then_some c z
+    → first (map missing_item (o ∷ p ∷ q ∷ [])) ≡ first (a gives number_of x ∷ b gives number_of y ∷ c gives number_of z ∷ [])
+three_items a b c x y z e f g = rw (e, f, g) (three_tested a b c x y z)

@@ -1,5 +1,5 @@
 -- What a request asks for: the rules' call, or 32 where they know none of its kind. And an item of a call that may be missing.
-use Rattle.std.specs.Prelude.{◌≡◌, ℕ, Bool, List, Result, MatchResult}
+use Rattle.std.specs.Prelude.{◌≡◌, ℕ, true, false, List, Option, None, Some, Result, MatchResult}
 use Rattle.base.specs.Chain.{Test, ◌gives◌}
 use Rattle.layout.specs.Layout.{byte_at}
 use Rattle.refusal.specs.Number.{number_of}
@@ -29,5 +29,6 @@ abbrev pub RequestFor : Call → Request → Type 0
 RequestFor call r = call_by r.kind r.a r.b r.c r.d ≡ ruled call
 
 -- whether it is missing, and the refusal if so
-abbrev pub missing_item : Bool × Refusal → Test
-missing_item item = item.0 gives number_of item.1
+abbrev pub missing_item : Option Refusal → Test
+missing_item None = false gives 0
+missing_item (Some refusal) = true gives number_of refusal

@@ -125,13 +125,15 @@ impl From<Call> for Request {
 }
 
 // What a list keeps beside its record, from one request to the next: the table of choices, the groups of each task, and the rights of the tasks that
-// run.
+// run. The three go by different items, so that no two of them are one array.
 #[derive(Clone, Copy)]
 pub struct Kept {
     // None until a start makes it.
     pub made: Option<[Option<u8>; 128]>,
     // None until a start of the task makes it.
     pub needs: [Option<u16>; 16],
+    // Those of skid s on group g are at s * 8 + g, as the record has the tank chosen there: one place serves a gate for both, and `put_row` (crate
+    // steps) writes a row of either. By rows, `[[u8; 8]; 8]`, there would be two of each.
     pub granted: [u8; 64],
 }
 
@@ -148,23 +150,17 @@ impl Kept {
     }
 }
 
-// The refusal of the first of three items that is missing. The three are tested at once before, so that a call whose items are there asks once.
-pub fn check_items(missing: [(bool, Refusal); 3]) -> Result<(), Refusal>
+// The refusal of the first of three items that is missing; `missing` has that of each that is. The three are tested at once before, so that a call
+// whose items are there asks once.
+pub fn check_present(missing: [Option<Refusal>; 3]) -> Result<(), Refusal>
     ensures { answer_of result ≡ first (map missing_item missing) }
 {
-    let [
-        (first, first_refusal),
-        (second, second_refusal),
-        (third, third_refusal),
-    ] = missing;
-    if !(first | second | third) {
+    let [first, second, third] = missing;
+    if !(first.is_some() | second.is_some() | third.is_some()) {
         return Ok(());
     }
-    if first {
-        return Err(first_refusal);
+    match first.or(second).or(third) {
+        Some(refusal) => Err(refusal),
+        None => Ok(()),
     }
-    if second {
-        return Err(second_refusal);
-    }
-    Err(third_refusal)
 }

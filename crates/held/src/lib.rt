@@ -26,7 +26,7 @@ fn write_right(m: &Monitor, list: &mut Writer, s: u8, o: u8, r: u8)
     requires room { Room (right_bytes_in m.now s o r) list.old }
     ensures { Writes (right_bytes_in m.now s o r) list.old list.new }
 {
-    if is_held(&m.plant, &m.running, &m.chosen, usize::from(s), o, r) {
+    if is_held(m, usize::from(s), o, r) {
         put_right(list, s, o, r);
     }
 }

@@ -70,9 +70,6 @@ module _ (m : Monitor) (rs : List Request) (ys : List ℕ) where
       ap (λ (z : List ℕ). set z i r.answer) b ∙ ap (λ (k : ℕ). set (buffer i) k r.answer) (sym n)
       ∙ overlay_more ys 0 (replies m (calls rs i)) r.answer (omega (arith, n, l')) ∙ ap (overlay ys 0) (more_answers i l h e)
 
-  pub buffer_length : (i : ℕ) → i ≤ length rs → i ≤ length ys → length (buffer i) ≡ length ys
-  buffer_length i l l' = overlay_length ys 0 (replies m (calls rs i)) (omega (arith, answered i l))
-
 -- what the number says: all requests are made, and each has room for its answer, or none is made
 module _ (m : Monitor) (rs : List Request) (ys : List ℕ) where
   pub all_made : (i : ℕ) → i ≤ length rs → length rs ≤ i → calls rs i ≡ map call_of rs

@@ -28,7 +28,8 @@ fn start_alone(m: &mut Monitor, s: u8, t: u8) -> Result<(), Refusal>
     start_late(m, &made, s, t, need)
 }
 
-// One request by itself. The answer is the byte that C and an answer buffer have.
+// One request by itself. The answer is the byte that C and an answer buffer have. The arms are those of a request of a list (`turn`, crate turns), which
+// reads and changes what the list keeps: a trait for the three that differ would be longer than they are.
 pub fn call_at(m: &mut Monitor, r: Request) -> u8
     requires { intact m.old.plant m.old ≡ true }
     ensures { Does m.old (call_by r.kind r.a r.b r.c r.d) result m.new }
@@ -41,12 +42,10 @@ pub fn call_at(m: &mut Monitor, r: Request) -> u8
                 requirement,
                 level,
             },
-        ) => answer(set_at(&m.plant, &mut m.levels, skid, task, requirement, level)),
+        ) => answer(set_at(m, skid, task, requirement, level)),
         Ok(Call::Start { skid, task }) => answer(start_alone(m, skid, task)),
-        Ok(Call::Stop { skid }) => answer(stop_at(&m.plant, &mut m.running, &mut m.chosen, skid)),
-        Ok(Call::Gate { skid, tank, right }) => gate_answer(gate_at(
-            &m.plant, &m.running, &m.chosen, skid, tank, right,
-        )),
+        Ok(Call::Stop { skid }) => answer(stop_at(m, skid)),
+        Ok(Call::Gate { skid, tank, right }) => gate_answer(gate_at(m, skid, tank, right)),
         Err(refusal) => u8::from(refusal),
     }
 }

@@ -1,35 +1,34 @@
-// The work of set and stop on the parts of a record that are lent to it, and a skid's row of choices or of rights granted.
+// The work of set and stop on a record that has passed test 20, and a skid's row of choices or of rights granted.
 // The bound of an index is a clause and no type: a type would be made of a number at each call and taken apart at each array.
+// That a record passes test 20 is a clause and no type: C holds records that do not pass, and each step would take the type apart.
 #![tactic(auto)]
 
-ghost use Rattle.std.specs.Prelude.{◌≡◌, ◌*◌, ◌<◌, length};
+ghost use Rattle.std.specs.Prelude.{◌≡◌, true, ◌*◌, ◌<◌, length};
 ghost use Rattle.refusal.specs.Number.{answer_of};
-ghost use Rattle.rules.specs.declared.Monitor.{Monitor};
 ghost use Rattle.rules.specs.Rules.{set, stop};
-ghost use Rattle.rules.specs.Record.{fill_from, with_levels, with_task};
-ghost use Rattle.calls.specs.Lent.{Does, SetReads, TaskReads};
+ghost use Rattle.rules.specs.Record.{intact, fill_from};
+ghost use Rattle.calls.specs.Lent.{Does};
 ghost use Rattle.calls.specs.Work.{rights_in, get_row};
 
-use calls::check_items;
+use calls::check_present;
 use plant::Plant;
 use refusal::Refusal;
+use rules::Monitor;
 
 // Set: 21 to 24, or the level is stored.
-pub fn set_at(p: &Plant, levels: &mut [u8; 1024], s: u8, t: u8, d: u8, v: u8) -> Result<(), Refusal>
-    requires { (m : Monitor) × SetReads p.now levels.old m }
-    ensures { (m : Monitor) → SetReads p.now levels.old m
-        → Does m (set s t d v) (answer_of result) (with_levels m levels.new) }
+pub fn set_at(m: &mut Monitor, s: u8, t: u8, d: u8, v: u8) -> Result<(), Refusal>
+    requires { intact m.old.plant m.old ≡ true }
+    ensures { Does m.old (set s t d v) (answer_of result) m.new }
 {
-    check_items([
-        (p.skids <= s, Refusal::NoSuchSkid),
-        (p.tasks <= t, Refusal::NoSuchTask),
-        (p.requirements <= d, Refusal::NoSuchRequirement),
+    check_present([
+        (m.plant.skids <= s).then_some(Refusal::NoSuchSkid),
+        (m.plant.tasks <= t).then_some(Refusal::NoSuchTask),
+        (m.plant.requirements <= d).then_some(Refusal::NoSuchRequirement),
     ])?;
-    let l = usize::from(p.requirement_lattice[usize::from(d)]);
-    if p.lattice_sizes[l] <= v {
+    if m.plant.levels_of(usize::from(d)) <= v {
         return Err(Refusal::NoSuchLevel);
     }
-    levels[(usize::from(s) * 16 + usize::from(t)) * 8 + usize::from(d)] = v;
+    m.levels[(usize::from(s) * 16 + usize::from(t)) * 8 + usize::from(d)] = v;
     Ok(())
 }
 
@@ -51,20 +50,14 @@ pub fn grant_row(granted: &mut [u8; 64], p: &Plant, s: usize, t: usize)
 }
 
 // Stop: 21, or the skid runs nothing and has no tank.
-pub fn stop_at(
-    p: &Plant,
-    running: &mut [u8; 8],
-    chosen: &mut [u8; 64],
-    s: u8,
-) -> Result<(), Refusal>
-    requires { (m : Monitor) × TaskReads p.now running.old chosen.old m }
-    ensures { (m : Monitor) → TaskReads p.now running.old chosen.old m
-        → Does m (stop s) (answer_of result) (with_task m running.new chosen.new) }
+pub fn stop_at(m: &mut Monitor, s: u8) -> Result<(), Refusal>
+    requires { intact m.old.plant m.old ≡ true }
+    ensures { Does m.old (stop s) (answer_of result) m.new }
 {
-    if p.skids <= s {
+    if m.plant.skids <= s {
         return Err(Refusal::NoSuchSkid);
     }
-    running[usize::from(s)] = 255;
-    put_row(chosen, usize::from(s), &[255; 8]);
+    m.running[usize::from(s)] = 255;
+    put_row(&mut m.chosen, usize::from(s), &[255; 8]);
     Ok(())
 }

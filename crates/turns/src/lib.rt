@@ -1,5 +1,7 @@
 // One request of a list, on a record that has passed test 20. The list keeps beside the record what the next request reads. Whoever makes a request
 // knows that the record passes: it is the fresh one of an accepted plant, and no call makes it fail.
+// The record and what is kept are lent one by one, each with its fact in a clause. With one struct of both, whose ghost fields have the facts, a mixed
+// request on 01's plant takes 35.9 instructions, more than the baseline's 35.4, where it takes 35.5 (docs/PERFORMANCE.md, "Ratios").
 #![tactic(auto)]
 
 ghost use Rattle.std.specs.Prelude.{◌≡◌, true};
@@ -34,13 +36,13 @@ fn stop_kept(m: &mut Monitor, kept: &mut Kept, s: u8) -> Result<(), Refusal>
     ensures does { Does m.old (stop s) (answer_of result) m.new }
     ensures keeps { Keeps m.new kept.new }
 {
-    stop_at(&m.plant, &mut m.running, &mut m.chosen, s)?;
+    stop_at(m, s)?;
     put_row(&mut kept.granted, usize::from(s), &[0; 8]);
     Ok(())
 }
 
-// One request of a list, and the byte that is its answer. The arms are those of a request by itself (crate single), over what a list keeps: a trait for
-// the three that differ would be longer than they are.
+// One request of a list, and the byte that is its answer. The arms are those of a request by itself (`call_at`, crate single), over what a list keeps: a
+// trait for the three that differ would be longer than they are.
 pub fn turn(m: &mut Monitor, kept: &mut Kept, r: Request) -> u8
     requires passes_test_20 { intact m.old.plant m.old ≡ true }
     requires keeps { Keeps m.old kept.old }
@@ -55,13 +57,12 @@ pub fn turn(m: &mut Monitor, kept: &mut Kept, r: Request) -> u8
                 requirement,
                 level,
             },
-        ) => answer(set_at(&m.plant, &mut m.levels, skid, task, requirement, level)),
+        ) => answer(set_at(m, skid, task, requirement, level)),
         Ok(Call::Start { skid, task }) => answer(start_kept(m, kept, skid, task)),
         Ok(Call::Stop { skid }) => answer(stop_kept(m, kept, skid)),
         Ok(Call::Gate { skid, tank, right }) => gate_answer(gate_granted(
-            &m.plant,
+            m,
             &kept.granted,
-            &m.chosen,
             skid,
             tank,
             right,

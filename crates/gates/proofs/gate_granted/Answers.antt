@@ -1,25 +1,21 @@
 -- A gate whose items are there answers by the rights granted.
-use Rattle.std.proofs.Common.{◌≡◌, rules, refl, sym}
+use Rattle.std.proofs.Common.{◌≡◌, rules, refl}
 use Rattle.refusal.specs.Number.{number_of, gate_answer_of}
 use Rattle.refusal.proofs.NotZero.{number_not_0}
 use Rattle.calls.proofs.Steps.{gate_refused, items_fit, gate_by_grants}
 use Rattle.gates.proofs.gate_granted.Goals as goal
 
 pub returns-in_err-check_gate : goal.returns-in_err-check_gate
-returns-in_err-check_gate c = λ m R.
+returns-in_err-check_gate c =
     let e : gate_answer_of c.from_residual.result ≡ number_of c.in_err-check_gate.field-0.0 = search rules in
-    rw e (gate_refused R.passed _ _ _ c.in_err-check_gate.ensures (number_not_0 c.in_err-check_gate.field-0.0))
+    rw e (gate_refused _ c.requires.passes_test_20 _ _ c.args.r c.in_err-check_gate.ensures (number_not_0 c.in_err-check_gate.field-0.0))
 
 pub is_granted-requires-clause-s_bound : goal.is_granted-requires-clause-s_bound
-is_granted-requires-clause-s_bound c =
-    let k = items_fit c.requires.1.passed _ _ c.args.r c.in_ok-check_gate.ensures refl in
-    rw c.from.ensures k.0
+is_granted-requires-clause-s_bound c = rw c.from.ensures (items_fit _ c.requires.passes_test_20 _ _ c.args.r c.in_ok-check_gate.ensures refl).0
 
 pub is_granted-requires-clause-o_bound : goal.is_granted-requires-clause-o_bound
-is_granted-requires-clause-o_bound c =
-    let R = c.requires.1 in
-    let k = items_fit R.passed _ _ c.args.r c.in_ok-check_gate.ensures refl in
-    k.1
+is_granted-requires-clause-o_bound c = (items_fit _ c.requires.passes_test_20 _ _ c.args.r c.in_ok-check_gate.ensures refl).1
 
 pub returns : goal.returns
-returns c = λ m R. gate_by_grants R.passed _ _ _ c.in_ok-check_gate.ensures refl R (rw (← c.from.ensures) c.is_granted.ensures)
+returns c =
+    gate_by_grants _ c.requires.passes_test_20 _ _ _ c.in_ok-check_gate.ensures refl c.requires.granted (rw (← c.from.ensures) c.is_granted.ensures)

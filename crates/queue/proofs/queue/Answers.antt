@@ -1,5 +1,5 @@
 -- A refused queue makes no call.
-use Rattle.std.proofs.Common.{sym, ◌∙◌, refl}
+use Rattle.std.proofs.Common.{sym, ◌∙◌}
 use Rattle.refusal.proofs.NotZero.{not_0}
 use Rattle.queue.proofs.Turns.{refused}
 use Rattle.queue.proofs.queue.Goals as goal

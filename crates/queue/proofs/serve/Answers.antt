@@ -1,5 +1,5 @@
 -- A request more: the record and the buffer are those of the next; at the end they are those of all requests.
-use Rattle.std.proofs.Common.{List, length, arith, ap, ◌∙◌}
+use Rattle.std.proofs.Common.{List, arith, ap, ◌∙◌}
 use Rattle.rules.specs.Rules.{Call}
 use Rattle.rules.specs.Record.{replies, final}
 use Rattle.base.specs.Overlay.{overlay}

@@ -1,44 +1,41 @@
 -- The tests are the rules', in their order, and the level goes to its place.
-use Rattle.std.proofs.Common.{◌≡◌, rules, refl, arith}
+use Rattle.std.proofs.Common.{◌≡◌, ◌∙◌, rules, refl, arith}
 use borrow.Author.Tests.{lt-leb, le-leb}
 use Rattle.refusal.specs.Number.{number_of, answer_of}
 use Rattle.refusal.proofs.NotZero.{number_not_0}
-use Rattle.calls.proofs.Steps.{plant_fits, set_does, set_missing, set_there}
+use Rattle.calls.proofs.Ready.{plant_valid}
+use Rattle.calls.proofs.There.{three_items}
+use Rattle.calls.proofs.Steps.{set_does, set_missing, set_there}
 use Rattle.steps.proofs.set_at.Goals as goal
 
-pub returns-in_err-check_items : goal.returns-in_err-check_items
-returns-in_err-check_items c = λ m R.
-    let e : answer_of c.from_residual.result ≡ number_of c.in_err-check_items.field-0.0 = search rules in
-    rw e (set_missing R _ _ _ c.args.v c.in_err-check_items.ensures (number_not_0 c.in_err-check_items.field-0.0))
+pub returns-in_err-check_present : goal.returns-in_err-check_present
+returns-in_err-check_present c =
+    let e : answer_of c.from_residual.result ≡ number_of c.in_err-check_present.field-0.0 = search rules in
+    let f = c.in_err-check_present.ensures ∙ three_items _ _ _ _ _ _ c.then_some.ensures c.then_some-2.ensures c.then_some-3.ensures in
+    rw e (set_missing _ c.requires _ _ _ c.args.v f (number_not_0 c.in_err-check_present.field-0.0))
 
-pub bounds-p-from : goal.bounds-p-from
-bounds-p-from c =
-    let R = c.requires.1 in
-    let k = set_there R _ _ _ c.args.v c.in_ok-check_items.ensures refl in
-    omega (arith, (plant_fits R.passed).counts.requirements_fit)
+pub levels_of-requires : goal.levels_of-requires
+levels_of-requires c =
+    let e = c.in_ok-check_present.ensures ∙ three_items _ _ _ _ _ _ c.then_some.ensures c.then_some-2.ensures c.then_some-3.ensures in
+    let k = set_there _ c.requires _ _ _ c.args.v e refl in
+    let w = plant_valid _ c.requires in
+    rw c.from.ensures (omega (arith, w.counts.requirements_fit), omega (arith, w.lattice_in c.args.d k.1.1, w.counts.lattices_fit))
 
-pub bounds-p-l : goal.bounds-p-l
-bounds-p-l c =
-    let R = c.requires.1 in
-    let k = set_there R _ _ _ c.args.v c.in_ok-check_items.ensures refl in
-    let w = plant_fits R.passed in
-    omega (arith, rw c.from.ensures at c.from-l.ensures, w.lattice_in c.args.d k.1.1, w.counts.lattices_fit)
+pub returns-then-levels_of-v : goal.returns-then-levels_of-v
+returns-then-levels_of-v c =
+    let e = c.in_ok-check_present.ensures ∙ three_items _ _ _ _ _ _ c.then_some.ensures c.then_some-2.ensures c.then_some-3.ensures in
+    let h = rw (c.levels_of.ensures, c.from.ensures) at c.if-levels_of-v.true in
+    set_does _ c.requires _ _ _ _ (rw (← e) (simp (le-leb _ _ h))) refl
 
-pub returns-then-p-l : goal.returns-then-p-l
-returns-then-p-l c = λ m R.
-    let k = set_there R _ _ _ c.args.v c.in_ok-check_items.ensures refl in
-    let h = rw (c.from-l.ensures, c.from.ensures) at c.if-p-l.true in
-    set_does R _ _ _ _ (simp (lt-leb _ _ k.0, lt-leb _ _ k.1.0, lt-leb _ _ k.1.1, le-leb _ _ h)) refl
-
-pub bounds-levels-from : goal.bounds-levels-from
-bounds-levels-from c =
-    let R = c.requires.1 in
-    let k = set_there R _ _ _ c.args.v c.in_ok-check_items.ensures refl in
-    let w = (plant_fits R.passed).counts in
-    omega (arith, w.skids_fit, w.tasks_fit, w.requirements_fit)
+pub bounds-m-from : goal.bounds-m-from
+bounds-m-from c =
+    let e = c.in_ok-check_present.ensures ∙ three_items _ _ _ _ _ _ c.then_some.ensures c.then_some-2.ensures c.then_some-3.ensures in
+    let k = set_there _ c.requires _ _ _ c.args.v e refl in
+    let w = (plant_valid _ c.requires).counts in
+    omega (arith, k.0, k.1.0, k.1.1, w.skids_fit, w.tasks_fit, w.requirements_fit)
 
 pub returns : goal.returns
-returns c = λ m R.
-    let k = set_there R _ _ _ c.args.v c.in_ok-check_items.ensures refl in
-    let h = rw (c.from-l.ensures, c.from.ensures) at c.if-p-l.false in
-    set_does R _ _ _ _ (simp (lt-leb _ _ k.0, lt-leb _ _ k.1.0, lt-leb _ _ k.1.1, lt-leb _ _ h)) (rw (c.from-2.ensures, c.from-3.ensures, c.from-4.ensures))
+returns c =
+    let e = c.in_ok-check_present.ensures ∙ three_items _ _ _ _ _ _ c.then_some.ensures c.then_some-2.ensures c.then_some-3.ensures in
+    let h = rw (c.levels_of.ensures, c.from.ensures) at c.if-levels_of-v.false in
+    set_does _ c.requires _ _ _ _ (rw (← e) (simp (lt-leb _ _ h))) (rw (c.from-2.ensures, c.from-3.ensures, c.from-4.ensures))

@@ -1,17 +1,18 @@
 -- The test is the rules', and the rows are emptied.
 use Rattle.std.proofs.Common.{refl, arith}
 use borrow.Author.Tests.{le-leb, lt-leb}
-use Rattle.calls.proofs.Steps.{plant_fits, stop_does}
+use Rattle.calls.proofs.Ready.{plant_valid}
+use Rattle.calls.proofs.Steps.{stop_does}
 use Rattle.steps.proofs.stop_at.Goals as goal
 
-pub returns-then-p-s : goal.returns-then-p-s
-returns-then-p-s c = λ m R. stop_does R _ (simp (le-leb _ _ c.if-p-s.true)) refl refl
+pub returns-then-m-s : goal.returns-then-m-s
+returns-then-m-s c = stop_does _ c.requires _ (simp (le-leb _ _ c.if-m-s.true)) refl
 
-pub bounds-running-from : goal.bounds-running-from
-bounds-running-from c = omega (arith, (plant_fits c.requires.1.passed).counts.skids_fit)
+pub bounds-m-from : goal.bounds-m-from
+bounds-m-from c = omega (arith, (plant_valid _ c.requires).counts.skids_fit)
 
 pub put_row-requires-clause-skid : goal.put_row-requires-clause-skid
-put_row-requires-clause-skid c = omega (arith, (plant_fits c.requires.1.passed).counts.skids_fit)
+put_row-requires-clause-skid c = omega (arith, (plant_valid _ c.requires).counts.skids_fit)
 
 pub returns : goal.returns
-returns c = λ m R. stop_does R _ (simp (lt-leb _ _ c.if-p-s.false)) (rw c.from.ensures) (rw (← c.from-2.ensures) c.put_row.ensures)
+returns c = stop_does _ c.requires _ (simp (lt-leb _ _ c.if-m-s.false)) (rw (c.put_row.ensures, c.from.ensures, c.from-2.ensures))
