@@ -1,5 +1,5 @@
--- The tests `.all(..)` and `.any(..)` over a range and over the front of a slice, in the words of specs/Below: r is what the call returned.
--- Assumes nothing.
+-- The tests `.all(..)` and `.any(..)` over a range and over the front of a slice, and `.contains(..)` of such a front, in the words of specs/Below: r is
+-- what the call returned. Assumes nothing.
 use mathlib.Core.Path.{◌≡◌, refl, ap, ap₂, ◌∙◌}
 use Prim.Native.Nat.{ℕ, zero, suc, ◌+◌, ◌≤◌}
 use native.Mathlib.Numerals.{add-one}
@@ -22,6 +22,10 @@ use Rattle.std.proofs.lemmas.Iterator.{YieldsList-from_slice, YieldsList-from_ra
 use Rattle.std.proofs.lemmas.Iterator.Search.{all_from_yields_List, any_from_yields_List}
 use Rattle.std.proofs.lemmas.List.Folds.{list_all_more, list_any_more, list_all-append, list_any-append}
 use Rattle.base.specs.Below.{all_below, any_below}
+
+not_or : (a b : Bool) → not (a || b) ≡ not a && not b
+not_or true b = refl
+not_or false b = refl
 
 range_more : (a n b : ℕ) → a + n ≡ b → range_with_len a (suc n) ≡ range_with_len a n ++ b ∷ []
 range_more a zero b e = ap (λ (m : ℕ). m ∷ []) (omega arith)
@@ -48,6 +52,13 @@ module _ {A : Type 0} (p : A → Bool) (d : A) (xs : List A) where
   unfolding any_below
   front_any zero l = refl
   front_any (suc n) l = rw (← add-one) (list_any_more p xs n d (omega arith) ∙ ap (λ b. b || p (get_or xs n d)) (front_any n (omega arith)))
+
+  -- `!xs[..n].contains(&x)`: p says which elements are x
+  pub none_in_front : (n : ℕ) → n ≤ length xs → not (list_any p (take n xs)) ≡ all_below (λ i. not (p (get_or xs i d))) n
+  unfolding all_below
+  none_in_front zero l = refl
+  none_in_front (suc n) l =
+      rw (← add-one) (ap not (list_any_more p xs n d (omega arith)) ∙ not_or _ _ ∙ ap (λ b. b && not (p (get_or xs n d))) (none_in_front n (omega arith)))
 
 -- What the clause `ran` of the call says: it took the items xs, and then o, at which it stopped.
 abbrev Ran : {S A F : Type 0} → (S → Option A → S → Type 0) → Mut F (A × Unit {0}) Bool → Bool → Bool → S → S → F → Type 0

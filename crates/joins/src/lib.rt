@@ -11,7 +11,7 @@ use lattice::Lattice;
 use rows::{Levels, numbers_to};
 
 // The table of joins. Of the turned order it is the table of meets. 255 stands for no join: with `Option<u8>` for an entry the test of a maximum plant's
-// eight lattices, built by itself, takes 65,600 instructions where it takes 44,400, and opening (docs/PERFORMANCE.md) would miss its aim of 3.
+// eight lattices takes 50,300 instructions where it takes 27,100, and opening it, a row of docs/PERFORMANCE.md, about twice as many.
 #[tactic(auto, using(base::proofs::Filled::filled))]
 fn table(levels: &Levels) -> [[u8; 16]; 16]
     ensures { result ≡ join_table levels.now.count (under_in levels.now.above) }
@@ -24,19 +24,11 @@ fn table(levels: &Levels) -> [[u8; 16]; 16]
     rows
 }
 
-// A `for` over a row by value, which becomes one comparison of sixteen bytes. Opening a maximum plant takes 39,100 instructions with it, 2.3 times the
-// baseline's; with `row[..n].iter().all(..)` 58,700, which misses the aim of 3 (docs/PERFORMANCE.md), and with `contains` 40,900.
-#[tactic(auto, using(base::proofs::Scan::scan_compare))]
-fn is_row_full(row: [u8; 16], n: usize) -> bool
+fn is_row_full(row: &[u8; 16], n: usize) -> bool
     requires { n ≤ 16 }
-    ensures { result ≡ row_full n row }
+    ensures { result ≡ row_full n row.now }
 {
-    for j in 0..n {
-        if row[j] == 255 {
-            return false;
-        }
-    }
-    true
+    !row[..n].contains(&255)
 }
 
 // Each pair of levels has its entry.
@@ -44,7 +36,7 @@ fn is_full(table: &[[u8; 16]; 16], n: usize) -> bool
     requires { n ≤ 16 }
     ensures { result ≡ table_full n table.now }
 {
-    table[..n].iter().all(|row| is_row_full(*row, n))
+    table[..n].iter().all(|row| is_row_full(row, n))
 }
 
 // 9: each pair of levels has a join and a meet.

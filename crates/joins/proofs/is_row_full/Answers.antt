@@ -1,8 +1,7 @@
--- An entry of 255 ends the test.
-use Rattle.std.proofs.Common.{not, ap, rules}
-use borrow.Author.Tests.{eq-eqb}
-use Rattle.base.proofs.Scan.{all_stops}
+-- No entry of the row's front is 255.
+use Rattle.std.proofs.Common.{rules, ap, not, nat_eq, ◌∙◌}
+use Rattle.base.proofs.AllAny.{none_in_front}
 use Rattle.joins.proofs.is_row_full.Goals as goal
 
-pub returns-then-row-j : goal.returns-then-row-j
-returns-then-row-j c = all_stops _ _ _ (search rules) (ap not (eq-eqb _ _ c.if-row-j.true))
+pub returns : goal.returns
+returns c = ap not c.contains.ensures.value ∙ none_in_front (λ v. nat_eq v 255) 0 c.args.row.now c.args.n (search rules)
