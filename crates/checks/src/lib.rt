@@ -21,7 +21,8 @@ fn counts_in(p: &Plant) -> bool
     Section::ALL.iter().all(|section| count_ok(*section, usize::from(p.count(*section))))
 }
 
-// The refusal with the lower number, which is written first, decides.
+// The refusal with the lower number, which is written first, decides. By the numbers, of which the rule speaks: a derived order would be that of the
+// variants' places.
 fn lower(a: Result<(), Refusal>, b: Result<(), Refusal>) -> Result<(), Refusal>
     ensures { answer_of result ≡ lower (answer_of a) (answer_of b) }
 {

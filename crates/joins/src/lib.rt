@@ -10,8 +10,9 @@ ghost use Rattle.lattice.specs.Table.{join_table, row_full, table_full};
 use lattice::Lattice;
 use rows::{Levels, numbers_to};
 
-// The table of joins. Of the turned order it is the table of meets. 255 stands for no join: with `Option<u8>` for an entry the test of a maximum plant's
-// eight lattices takes 50,300 instructions where it takes 27,100, and opening it, a row of docs/PERFORMANCE.md, about twice as many.
+// The table of joins. Of the turned order it is the table of meets. 255 stands for no join: with `Option<u8>` for an entry check 9 of a maximum plant's
+// eight lattices, built by itself, takes 23,000 instructions more (27,100 with 255), and written in Rust 15,000 more. Opening such a plant takes 40,900,
+// and its aim of 3 (docs/PERFORMANCE.md) is at 51,700.
 #[tactic(auto, using(base::proofs::Filled::filled))]
 fn table(levels: &Levels) -> [[u8; 16]; 16]
     ensures { result ≡ join_table levels.now.count (under_in levels.now.above) }
