@@ -1,6 +1,6 @@
 -- The byte of each record is tested.
 use Rattle.std.proofs.Common.{rules, tests}
-use Rattle.base.proofs.AllAny.{all_in_range}
+use Rattle.base.proofs.All.{all_in_range}
 use Rattle.layout.specs.Layout.{zeros_at}
 use Rattle.cells.proofs.zeros_at.Goals as goal
 

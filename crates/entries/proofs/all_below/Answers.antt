@@ -1,6 +1,6 @@
 -- Each of the first n entries is asked.
 use Rattle.std.proofs.Common.{ℕ, rules, tests, ltb}
-use Rattle.base.proofs.AllAny.{all_in_front}
+use Rattle.base.proofs.All.{all_in_front}
 use Rattle.entries.proofs.all_below.Goals as goal
 
 pub returns : goal.returns

@@ -1,6 +1,6 @@
 -- Each task is asked.
 use Rattle.std.proofs.Common.{rules}
-use Rattle.base.proofs.AllAny.{all_in_range}
+use Rattle.base.proofs.All.{all_in_range}
 use Rattle.plant.specs.Checks.{requirements_named}
 use Rattle.items.proofs.requirements_named.Goals as goal
 

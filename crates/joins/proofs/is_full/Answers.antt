@@ -1,6 +1,6 @@
 -- Try.
 use Rattle.std.proofs.Common.{rules, tests, []}
-use Rattle.base.proofs.AllAny.{all_in_front}
+use Rattle.base.proofs.All.{all_in_front}
 use Rattle.lattice.specs.Table.{row_full}
 use Rattle.joins.proofs.is_full.Goals as goal
 

@@ -1,6 +1,6 @@
 -- No entry of the row's front is 255.
 use Rattle.std.proofs.Common.{rules, ap, not, nat_eq, ◌∙◌}
-use Rattle.base.proofs.AllAny.{none_in_front}
+use Rattle.base.proofs.All.{none_in_front}
 use Rattle.joins.proofs.is_row_full.Goals as goal
 
 pub returns : goal.returns

@@ -1,6 +1,6 @@
 -- Each set is tested.
 use Rattle.std.proofs.Common.{rules, tests}
-use Rattle.base.proofs.AllAny.{all_in_range}
+use Rattle.base.proofs.All.{all_in_range}
 use Rattle.levels.proofs.sets_clear.Goals as goal
 
 pub returns : goal.returns

@@ -1,6 +1,6 @@
 -- Each group is asked.
 use Rattle.std.proofs.Common.{rules}
-use Rattle.base.proofs.AllAny.{all_in_range}
+use Rattle.base.proofs.All.{all_in_range}
 use Rattle.running.proofs.tanks_ok.Goals as goal
 
 pub returns : goal.returns

@@ -1,6 +1,6 @@
 -- Each task is asked.
 use Rattle.std.proofs.Common.{rules}
-use Rattle.base.proofs.AllAny.{all_in_range}
+use Rattle.base.proofs.All.{all_in_range}
 use Rattle.stored.proofs.skid_levels_ok.Goals as goal
 
 pub returns : goal.returns

@@ -1,7 +1,7 @@
 -- Each skid is asked.
 use Rattle.std.proofs.Common.{rules}
 use Rattle.base.specs.Bits.{none_from}
-use Rattle.base.proofs.AllAny.{all_in_front}
+use Rattle.base.proofs.All.{all_in_front}
 use Rattle.tasks.proofs.skids_fit.Goals as goal
 
 pub returns : goal.returns

@@ -1,7 +1,7 @@
 -- Where the requirements are in order the rights decide, and each of the eight places is asked.
 use Rattle.std.proofs.Common.{rules, refl}
 use Rattle.base.proofs.Both.{and_on}
-use Rattle.base.proofs.AllAny.{all_in_range}
+use Rattle.base.proofs.All.{all_in_range}
 use Rattle.tasks.proofs.task_fits.Goals as goal
 
 pub returns-then-none_from : goal.returns-then-none_from

@@ -1,10 +1,10 @@
--- The tests `.all(..)` and `.any(..)` over a range and over the front of a slice, and `.contains(..)` of such a front, in the words of specs/Below: r is
--- what the call returned. Assumes nothing.
+-- The test `.all(..)` over a range and over the front of a slice, and `.contains(..)` of such a front, in the words of specs/Below: r is what the call
+-- returned. Assumes nothing.
 use mathlib.Core.Path.{◌≡◌, refl, ap, ap₂, ◌∙◌}
 use Prim.Native.Nat.{ℕ, zero, suc, ◌+◌, ◌≤◌}
 use native.Mathlib.Numerals.{add-one}
 use native.Mathlib.Omega.{arith}
-use mathlib.Core.Bool.{Bool, true, false, not, ◌&&◌, ◌||◌, and-true, or-false}
+use mathlib.Core.Bool.{Bool, true, false, not, ◌&&◌, ◌||◌, and-true}
 use mathlib.Core.List.{List, [], ◌∷◌, ◌++◌}
 use lib.ListN.{length, get_or, take}
 use denote.Param.Members.{Mut}
@@ -19,9 +19,9 @@ use Rattle.std.specs.declared.ops.Range.{Range}
 use Rattle.std.specs.declared.slice.Iter.{Iter}
 use Rattle.std.proofs.iter.Yields.{fronts, nat_range_steps}
 use Rattle.std.proofs.lemmas.Iterator.{YieldsList-from_slice, YieldsList-from_range}
-use Rattle.std.proofs.lemmas.Iterator.Search.{all_from_yields_List, any_from_yields_List}
-use Rattle.std.proofs.lemmas.List.Folds.{list_all_more, list_any_more, list_all-append, list_any-append}
-use Rattle.base.specs.Below.{all_below, any_below}
+use Rattle.std.proofs.lemmas.Iterator.Search.{all_from_yields_List}
+use Rattle.std.proofs.lemmas.List.Folds.{list_all_more, list_any_more, list_all-append}
+use Rattle.base.specs.Below.{all_below}
 
 not_or : (a b : Bool) → not (a || b) ≡ not a && not b
 not_or true b = refl
@@ -37,21 +37,11 @@ module _ (p : ℕ → Bool) where
   range_all zero = refl
   range_all (suc n) = ap (list_all p) (range_more 0 n n (omega arith)) ∙ list_all-append p _ (n ∷ []) ∙ ap₂ ◌&&◌ (range_all n) (and-true (p n))
 
-  range_any : (n : ℕ) → list_any p (range_with_len 0 n) ≡ any_below p n
-  unfolding any_below
-  range_any zero = refl
-  range_any (suc n) = ap (list_any p) (range_more 0 n n (omega arith)) ∙ list_any-append p _ (n ∷ []) ∙ ap₂ ◌||◌ (range_any n) (or-false (p n))
-
 module _ {A : Type 0} (p : A → Bool) (d : A) (xs : List A) where
   front_all : (n : ℕ) → n ≤ length xs → list_all p (take n xs) ≡ all_below (λ i. p (get_or xs i d)) n
   unfolding all_below
   front_all zero l = refl
   front_all (suc n) l = rw (← add-one) (list_all_more p xs n d (omega arith) ∙ ap (λ b. b && p (get_or xs n d)) (front_all n (omega arith)))
-
-  front_any : (n : ℕ) → n ≤ length xs → list_any p (take n xs) ≡ any_below (λ i. p (get_or xs i d)) n
-  unfolding any_below
-  front_any zero l = refl
-  front_any (suc n) l = rw (← add-one) (list_any_more p xs n d (omega arith) ∙ ap (λ b. b || p (get_or xs n d)) (front_any n (omega arith)))
 
   -- `!xs[..n].contains(&x)`: p says which elements are x
   pub none_in_front : (n : ℕ) → n ≤ length xs → not (list_any p (take n xs)) ≡ all_below (λ i. not (p (get_or xs i d))) n
@@ -69,18 +59,12 @@ Ran {S} {A} {F} steps g go r s u f = (xs : List A) × (o : Option A) × (j : F) 
 abbrev Computes : {A B F : Type 0} → Mut F (A × Unit {0}) Bool → F → (A → B) → (B → Bool) → Type 0
 Computes {A} {B} {F} g f v p = (x : A) (b : Bool) (q : F) → Called g f (x, tt) b q → (q ≡ f) × (b ≡ p (v x))
 
--- `(0..n).all(|i| ..)` and `(0..n).any(|i| ..)`
+-- `(0..n).all(|i| ..)`
 module _ {F : Type 0} {g : Mut F (ℕ × Unit {0}) Bool} {s u : Range ℕ} {f : F} {r : Bool} (p : ℕ → Bool) (n : ℕ) where
   pub all_in_range : Ran nat_range_steps g true r s u f → s ≡ record { start = 0; end = n } → Computes g f (λ x. x) p → r ≡ all_below p n
   all_in_range ran e k = all_from_yields_List p u f r ran (YieldsList-from_range 0 n n e (omega arith)) k ∙ range_all p n
 
-  pub any_in_range : Ran nat_range_steps g false r s u f → s ≡ record { start = 0; end = n } → Computes g f (λ x. x) p → r ≡ any_below p n
-  any_in_range ran e k = any_from_yields_List p u f r ran (YieldsList-from_range 0 n n e (omega arith)) k ∙ range_any p n
-
--- `xs[..n].iter().all(|x| ..)` and `xs[..n].iter().any(|x| ..)`
+-- `xs[..n].iter().all(|x| ..)`
 module _ {A F : Type 0} {g : Mut F (Bor A × Unit {0}) Bool} {s u : Iter A} {f : F} {r : Bool} (p : A → Bool) (d : A) (xs : List A) (n : ℕ) where
   pub all_in_front : Ran fronts g true r s u f → iter_rest s ≡ take n xs → n ≤ length xs → Computes g f (λ x. x.now) p → r ≡ all_below (λ i. p (get_or xs i d)) n
   all_in_front ran e l k = all_from_yields_List p u f r ran (YieldsList-from_slice (take n xs) e) k ∙ front_all p d xs n l
-
-  pub any_in_front : Ran fronts g false r s u f → iter_rest s ≡ take n xs → n ≤ length xs → Computes g f (λ x. x.now) p → r ≡ any_below (λ i. p (get_or xs i d)) n
-  any_in_front ran e l k = any_from_yields_List p u f r ran (YieldsList-from_slice (take n xs) e) k ∙ front_any p d xs n l
