@@ -12,7 +12,7 @@ ghost use Rattle.test20.specs.Raw.{parts_in};
 use checks::check_plant;
 use rules::Monitor;
 use running::runs_ok;
-use stored::levels_ok;
+use stored::{levels_by_requirement, levels_ok};
 
 // The changing parts, beside a plant that has passed: within the counts, on every skid.
 fn parts_ok(m: &Monitor) -> bool
@@ -20,7 +20,7 @@ fn parts_ok(m: &Monitor) -> bool
     requires lattices_in { (d : ℕ) → d < m.now.plant.requirements → lattice_of m.now.plant d < 8 }
     ensures { result ≡ parts_in m.now.plant m.now.levels m.now.running m.now.chosen }
 {
-    levels_ok(m) && runs_ok(m)
+    levels_ok(m, &levels_by_requirement(&m.plant)) && runs_ok(m)
 }
 
 // 20. The plant comes first: its counts and links say where the changing parts are read, and lie within the record only once it has

@@ -14,7 +14,7 @@ use rules::Monitor;
 // How many levels each requirement has, so that its lattice is found once and not for each skid and task. Past the count it is 255, under
 // which every level passes.
 #[tactic(auto, using(base::proofs::Filled::filled))]
-fn levels_by_requirement(p: &Plant) -> [u8; 8]
+pub fn levels_by_requirement(p: &Plant) -> [u8; 8]
     requires count_in { p.now.requirements ≤ 8 }
     requires lattices_in { (d : ℕ) → d < p.now.requirements → lattice_of p.now d < 8 }
     ensures made { result ≡ most p.now }
@@ -57,11 +57,11 @@ fn skid_levels_ok(m: &Monitor, levels: &[u8; 8], s: usize) -> bool
     (0..usize::from(m.plant.tasks)).all(|t| row_ok(m, levels, s * 16 + t))
 }
 
-pub fn levels_ok(m: &Monitor) -> bool
+// `levels` has how many levels each requirement has.
+pub fn levels_ok(m: &Monitor, levels: &[u8; 8]) -> bool
     requires counts_in { (m.now.plant.requirements ≤ 8) × ((m.now.plant.tasks ≤ 16) × (m.now.plant.skids ≤ 8)) }
-    requires lattices_in { (d : ℕ) → d < m.now.plant.requirements → lattice_of m.now.plant d < 8 }
-    ensures { result ≡ all_below (skid_levels_in m.now.levels (most m.now.plant) m.now.plant.requirements m.now.plant.tasks) m.now.plant.skids }
+    requires free { Free levels.now m.now.plant.requirements }
+    ensures { result ≡ all_below (skid_levels_in m.now.levels levels.now m.now.plant.requirements m.now.plant.tasks) m.now.plant.skids }
 {
-    let levels = levels_by_requirement(&m.plant);
-    (0..usize::from(m.plant.skids)).all(|s| skid_levels_ok(m, &levels, s))
+    (0..usize::from(m.plant.skids)).all(|s| skid_levels_ok(m, levels, s))
 }
