@@ -53,7 +53,7 @@ pub fn length_said(file: &[u8]) -> usize
 pub fn length_ok(file: &[u8]) -> bool
     ensures { result ≡ length_ok file.now }
 {
-    HEADER_BYTES <= file.len() && file.len() <= FILE_LIMIT && length_said(file) == file.len()
+    (HEADER_BYTES..=FILE_LIMIT).contains(&file.len()) && length_said(file) == file.len()
 }
 
 // 3: the counts.
@@ -61,7 +61,7 @@ pub fn length_ok(file: &[u8]) -> bool
 pub fn count_ok(section: Section, count: usize) -> bool
     ensures { result ≡ count_ok (section_number section) count }
 {
-    1 <= count && count <= LIMITS[usize::from(section)]
+    (1..=LIMITS[usize::from(section)]).contains(&count)
 }
 
 // A file with a whole header.
