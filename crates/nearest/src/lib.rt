@@ -10,14 +10,7 @@ ghost use Rattle.choice.specs.Search.{under_in_lattice};
 ghost use Rattle.choice.specs.Table.{TanksThere, PlacesOf, reaches_in, nearer_in};
 
 use plant::Plant;
-use sets::{with_one, with_set, without_one};
-
-// The levels of the set x that are not in y.
-fn without_set(x: u16, y: u16) -> u16
-    ensures { (j : ℕ) → bit result j ≡ bit x j && not (bit y j) }
-{
-    x & !y
-}
+use sets::{with_one, with_set, without_one, without_set};
 
 // The levels at which each group has a tank, as sets.
 pub fn places_of(p: &Plant) -> [u16; 8]
