@@ -14,8 +14,8 @@ use plant::Plant;
 use rules::Monitor;
 use turns::turn;
 
-// The answer to each request, from the fresh monitor, and the record after the last. The answers are written by their numbers: of a buffer that is gone
-// over by `iter_mut` and `zip` the check knows the length alone.
+// The answer to each request, from the fresh monitor, and the record after the last. The answers are written by their numbers: over
+// `out.iter_mut().zip(..)` it was tried, and the proof does not close, since of a buffer lent so the check knows the length alone after a turn.
 pub fn serve(p: Plant, requests: &[u8], out: &mut [u8]) -> Monitor
     requires plant_passes { plant_refusal true true p ≡ 0 }
     requires in_range { length requests.now / 5 ≤ length out.old }

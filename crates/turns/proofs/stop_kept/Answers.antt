@@ -13,8 +13,8 @@ returns-in_err-stop_at-clause-keeps c =
     let e = c.in_err-stop_at.field-0.0 in
     rw (← plant_kept d) (record { tables = k.tables; grants = stop_refused _ k.grants c.args.s d (not_0 e) })
 
-pub put_row-requires-clause-skid : goal.put_row-requires-clause-skid
-put_row-requires-clause-skid c =
+pub put_row-requires : goal.put_row-requires
+put_row-requires c =
     let i = c.requires.passes_test_20 in
     rw c.from.ensures (stop_item _ c.requires.keeps.grants c.args.s (plant_valid _ i).counts.skids_fit c.in_ok-stop_at.ensures refl)
 
