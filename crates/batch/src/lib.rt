@@ -8,11 +8,10 @@ ghost use Rattle.rules.specs.Record.{fresh};
 ghost use Rattle.rules.specs.Run.{runs, ends};
 ghost use Rattle.calls.specs.RequestBytes.{calls_of};
 
-use calls::{Kept, Request};
-use fresh::fresh_monitor;
+use calls::Request;
 use plant::Plant;
 use rules::Monitor;
-use turns::turn;
+use turns::Batch;
 
 // The answer to each request, from the fresh monitor, and the record after the last. The answers are written by their numbers: over
 // `out.iter_mut().zip(..)` it was tried, and the proof does not close, since of a buffer lent so the check knows the length alone after a turn.
@@ -22,10 +21,9 @@ pub fn serve(p: Plant, requests: &[u8], out: &mut [u8]) -> Monitor
     ensures record_after { result ≡ ends (fresh p) (calls_of requests.now (length requests.now / 5)) }
     ensures answers { out.new ≡ overlay out.old 0 (runs (fresh p) (calls_of requests.now (length requests.now / 5))) }
 {
-    let mut m = fresh_monitor(p);
-    let mut kept = Kept::new();
+    let mut batch = Batch::new(p);
     for (i, request) in requests.as_chunks::<5>().0.iter().enumerate() {
-        out[i] = turn(&mut m, &mut kept, Request::from(*request));
+        out[i] = batch.turn(Request::from(*request));
     }
-    m
+    batch.monitor
 }
