@@ -7,17 +7,15 @@ ghost use Rattle.choice.specs.Table.{Linked, ChoicesIn, Put};
 
 use nearest::{nearest_for, places_of};
 use plant::Plant;
-use sets::has;
+use sets::Members;
 
-// Tank o goes to the entries of its group g for the levels of the set `near`. The loop has a fixed length, as in `above_in`.
+// Tank o goes to the entries of its group g for the levels of the set `near`.
 fn put_choices(made: &mut [Option<u8>; 128], g: usize, near: u16, o: u8)
     requires { g < 8 }
     ensures { Put g near o made.old made.new }
 {
-    for v in 0..16 {
-        if has(near, v) {
-            made[g * 16 + v] = Some(o);
-        }
+    for v in Members::of(near) {
+        made[g * 16 + v] = Some(o);
     }
 }
 

@@ -10,14 +10,7 @@ ghost use Rattle.choice.specs.Search.{under_in_lattice};
 ghost use Rattle.choice.specs.Table.{TanksThere, PlacesOf, reaches_in, nearer_in};
 
 use plant::Plant;
-use sets::{with_one, with_set, without_one};
-
-// The levels of the set x that are not in y.
-fn without_set(x: u16, y: u16) -> u16
-    ensures { (j : ℕ) → bit result j ≡ bit x j && not (bit y j) }
-{
-    x & !y
-}
+use sets::{Members, with_one, without_one, without_set};
 
 // The levels at which each group has a tank, as sets.
 pub fn places_of(p: &Plant) -> [u16; 8]
@@ -32,15 +25,14 @@ pub fn places_of(p: &Plant) -> [u16; 8]
     places
 }
 
-// What lies at or above a level of the set `these` in lattice l. It looks at all 16 levels and never leaves early, so that the loop has a fixed
-// length.
+// What lies at or above a level of the set `these` in lattice l.
 fn above_in(sets: &[u16; 128], l: usize, these: u16) -> u16
     requires { l < 8 }
     ensures { (v : ℕ) → bit result v ≡ any_below (reaches_in sets.now l these v) 16 }
 {
     let mut all: u16 = 0;
-    for y in 0..16 {
-        all = with_set(all, these, y, sets[l * 16 + y]);
+    for y in Members::of(these) {
+        all |= sets[l * 16 + y];
     }
     all
 }

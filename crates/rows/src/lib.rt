@@ -19,7 +19,6 @@ pub struct Levels {
     pub above: [u16; 16],
     pub under: [u16; 16],
     pub ghost ordered: { OrderedSets count above },
-    pub ghost turned_ordered: { OrderedSets count under },
     pub ghost turned: { Turned count above under },
 }
 
@@ -87,6 +86,7 @@ impl Levels {
         ensures count { result.count ≡ lattice.now.n }
         ensures above { result.above ≡ lattice.now.sets }
         ensures under { result.under ≡ turned_sets lattice.now.sets }
+        ensures turned_ordered { OrderedSets result.count result.under }
     {
         Levels {
             count: usize::from(lattice.n),
@@ -97,6 +97,7 @@ impl Levels {
 
     // The turned order, in which a join is a meet of this one.
     pub fn turned(&self) -> Levels
+        requires turned_ordered { OrderedSets self.now.count self.now.under }
         ensures count { result.count ≡ self.now.count }
         ensures above { result.above ≡ self.now.under }
         ensures under { result.under ≡ self.now.above }
