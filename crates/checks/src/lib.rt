@@ -1,6 +1,5 @@
 // Opening's checks 3 and 7 to 12 of a plant record, in their order.
-// That the counts are within the record (`Fits`) is a clause of each step: a struct round the plant with that fact would stand before each part of the
-// plant in every other clause, and be no plainer.
+// That the counts are within the record (`Fits`) is a clause of `check_lattices` alone, as entries has it.
 #![tactic(auto)]
 
 ghost use Rattle.std.specs.Prelude.{◌≡◌};
@@ -14,8 +13,8 @@ use levels::check_lattice;
 use plant::Plant;
 use refusal::Refusal;
 
-// 3: the counts. `Header::counts_ok` is the same of a file; one function of both would have to ask and promise of any closure that tells a count, and each
-// of the two would still state its own: three contracts in place of two.
+// 3: the counts. `Header::counts_ok` is the same of a file. One function of both would take the count as a closure and promise its test of any closure
+// that tells counts, and each of the two would still state its own: three contracts in place of two.
 fn counts_in(p: &Plant) -> bool
     ensures { result ≡ counts_in p.now }
 {

@@ -1,6 +1,8 @@
 // Opening's check 10 on a record: the links and the tanks, and with crate tasks all of it.
-// That the counts are within the record (`Fits`, or the bound of one count) is a clause of each step that leans on it: a struct round the plant with that
-// fact would stand before each part of the plant in every other clause, and be no plainer.
+// That the counts are within the record (`Fits`) is a clause and no type. Tried: a struct round `&Plant` with `impl Model`, whose value is the plant and
+// whose invariant is `Fits`. The other clauses stay as they are, but `numbers_ok`, which the check proves alone here, is left with three goals, also with
+// the view rewritten and `links_in` and `front_below` given to the search; and the struct has thirteen lines for three clauses, and each function has to
+// take the plant out of it first.
 #![tactic(auto)]
 
 ghost use Rattle.std.specs.Prelude.{◌≡◌, ◌<◌, length};

@@ -1,6 +1,6 @@
 // Opening's checks 10 to 12 on the tanks, tasks and skids of a plant, in their order.
-// That the counts are within the record (`Fits`, or the bound of one count) is a clause of each step that leans on it: a struct round the plant with that
-// fact would stand before each part of the plant in every other clause, and be no plainer.
+// That the counts are within the record (`Fits`) is a clause and no type, as entries has it.
+// The bounds of t and g are clauses and no types: a range makes each, and a type would be made of it at each turn and taken apart at each array.
 #![tactic(auto)]
 
 ghost use Rattle.std.specs.Prelude.{◌≡◌, ℕ, ◌+◌, ◌*◌, ◌<◌, ◌≤◌};
