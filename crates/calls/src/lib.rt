@@ -12,8 +12,8 @@ ghost use Rattle.calls.specs.Requests.{AsksFor, RequestFor, OfBytes, missing_ite
 
 use refusal::Refusal;
 
-// A request as a queue, a batch and C have it. Kind 0 is set, 1 start, 2 stop, 3 gate. The four bytes are the call's arguments in their order; those
-// that the call has no use for are ignored.
+// A request as a queue, a batch and C have it. Kind 0 is set, 1 start, 2 stop, 3 gate, as include/permits.h numbers them; each number stands once in
+// each direction below. The four bytes are the call's arguments in their order; those that the call has no use for are ignored.
 #[repr(C)]
 #[derive(Clone, Copy)]
 pub struct Request {
@@ -133,8 +133,8 @@ pub struct Kept {
     pub made: Option<[Option<u8>; 128]>,
     // None until a start of the task makes it.
     pub needs: [Option<u16>; 16],
-    // Those of skid s on group g are at s * 8 + g, as the record has the tank chosen there: one place serves a gate for both, and `put_row` (crate
-    // steps) writes a row of either. By rows, `[[u8; 8]; 8]`, there would be two of each.
+    // Those of skid s on group g are at s * 8 + g, where the record has the tank chosen there: a gate works out one place for both, and `put_row`
+    // (crate steps) writes a row of either. As `[[u8; 8]; 8]` a gate would read its two bytes at places of two forms.
     pub granted: [u8; 64],
 }
 
@@ -152,7 +152,8 @@ impl Kept {
 }
 
 // The refusal of the first of three items that is missing; `missing` has that of each that is. The three are tested at once before, so that a call
-// whose items are there asks once.
+// whose items are there asks once: of a number that is made first and then compared with 0 each gate takes twelve instructions more, where a mixed
+// request takes 35.1 and may take 35.4. A start has four tests, each of which leans on the one before, so it asks with an `if` for each.
 pub fn check_present(missing: [Option<Refusal>; 3]) -> Result<(), Refusal>
     ensures { answer_of result ≡ first (map missing_item missing) }
 {
@@ -160,8 +161,5 @@ pub fn check_present(missing: [Option<Refusal>; 3]) -> Result<(), Refusal>
     if !(first.is_some() | second.is_some() | third.is_some()) {
         return Ok(());
     }
-    match first.or(second).or(third) {
-        Some(refusal) => Err(refusal),
-        None => Ok(()),
-    }
+    first.or(second).or(third).map_or(Ok(()), Err)
 }

@@ -3,19 +3,18 @@
 // fact would stand before each part of the plant in every other clause, and be no plainer.
 #![tactic(auto)]
 
-ghost use Rattle.std.specs.Prelude.{◌≡◌, ◌<◌, ◌≤◌};
+ghost use Rattle.std.specs.Prelude.{◌≡◌, ◌<◌, length};
 ghost use Rattle.base.specs.Below.{all_below};
 ghost use Rattle.plant.specs.Checks.{Fits, LinksIn, entry_below, tank_fits, numbers_ok};
 
 use plant::Plant;
 use tasks::{skids_fit, tasks_fit};
 
-// Each of the first n entries is below a bound.
-fn all_below(entries: &[u8; 8], n: u8, bound: u8) -> bool
-    requires { n ≤ 8 }
-    ensures { result ≡ all_below (entry_below entries.now bound) n }
+// Each entry is below a bound.
+fn all_below(entries: &[u8], bound: u8) -> bool
+    ensures { result ≡ all_below (entry_below entries.now bound) (length entries.now) }
 {
-    entries[..usize::from(n)].iter().all(|entry| *entry < bound)
+    entries.iter().all(|entry| *entry < bound)
 }
 
 // A tank is judged in the lattice of its group's requirement.
@@ -41,14 +40,18 @@ fn tanks_fit(p: &Plant) -> bool
     (0..usize::from(p.tanks)).all(|o| tank_fits(p, o))
 }
 
-#[tactic(auto, using(plant::proofs::Links::links_in), unfolding(plant::specs::Checks::numbers_ok))]
+#[tactic(auto, using(plant::proofs::Links::links_in, plant::proofs::Links::front_below), unfolding(plant::specs::Checks::numbers_ok))]
 pub fn numbers_ok(p: &Plant) -> bool
     requires { Fits p.now }
     ensures { result ≡ numbers_ok p.now }
 {
-    all_below(&p.requirement_lattice, p.requirements, p.lattices)
-        && all_below(&p.group_requirement, p.groups, p.requirements)
-        && tanks_fit(p)
+    all_below(
+        &p.requirement_lattice[..usize::from(p.requirements)],
+        p.lattices,
+    ) && all_below(
+        &p.group_requirement[..usize::from(p.groups)],
+        p.requirements,
+    ) && tanks_fit(p)
         && tasks_fit(p)
         && skids_fit(p)
 }

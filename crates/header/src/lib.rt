@@ -28,10 +28,11 @@ const LIMITS: [usize; 6] = [8, 8, 8, 64, 16, 8];
 pub fn width_of(section: Section) -> usize
     ensures { (result ≡ width (section_number section)) × (result ≤ 34) }
 {
-    WIDTHS[section as usize]
+    WIDTHS[usize::from(section)]
 }
 
-// The two-byte number at a place in bytes, low byte first.
+// The two-byte number at a place in bytes, low byte first. It is not of a part that begins there: `word_at(&file[LENGTH_AT..])` is no plainer than
+// `word_at(file, LENGTH_AT)`, and the layout's definitions have the place too.
 pub fn word_at(bytes: &[u8], at: usize) -> u16
     requires { at + 1 < length bytes.now }
     ensures { result ≡ word_at bytes.now at }
@@ -52,7 +53,7 @@ pub fn length_said(file: &[u8]) -> usize
 pub fn length_ok(file: &[u8]) -> bool
     ensures { result ≡ length_ok file.now }
 {
-    HEADER_BYTES <= file.len() && file.len() <= FILE_LIMIT && length_said(file) == file.len()
+    (HEADER_BYTES..=FILE_LIMIT).contains(&file.len()) && length_said(file) == file.len()
 }
 
 // 3: the counts.
@@ -60,7 +61,7 @@ pub fn length_ok(file: &[u8]) -> bool
 pub fn count_ok(section: Section, count: usize) -> bool
     ensures { result ≡ count_ok (section_number section) count }
 {
-    1 <= count && count <= LIMITS[section as usize]
+    (1..=LIMITS[usize::from(section)]).contains(&count)
 }
 
 // A file with a whole header.
@@ -71,13 +72,14 @@ pub struct Header<'a> {
 }
 
 impl<'a> Header<'a> {
-    // How many records a section has, as the header has it, and as a number.
+    // How many records a section has, as the header's byte, which the plant's record has too.
     pub fn count_byte(self, section: Section) -> u8
         ensures { result ≡ count self.entry.file.now (section_number section) }
     {
-        self.file[COUNTS_AT + section as usize]
+        self.file[COUNTS_AT + usize::from(section)]
     }
 
+    // How many records a section has, as a number to count with.
     pub fn count(self, section: Section) -> usize
         ensures { (result ≡ count self.entry.file.now (section_number section)) × (result < 256) }
     {
@@ -88,7 +90,7 @@ impl<'a> Header<'a> {
     pub fn offset(self, section: Section) -> usize
         ensures { (result ≡ offset self.entry.file.now (section_number section)) × (result < 65536) }
     {
-        usize::from(word_at(self.file, OFFSETS_AT + section as usize * 2))
+        usize::from(word_at(self.file, OFFSETS_AT + usize::from(section) * 2))
     }
 
     // Where it ends.

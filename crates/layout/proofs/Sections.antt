@@ -62,6 +62,6 @@ module _ (p : ℕ → Bool) where
     pub all_tested : iter_rest s ≡ every → ((x : Bor Section) (b : Bool) (q : F) → Called g f (x, tt) b q → (q ≡ f) × (b ≡ p (section_number x.now))) → r ≡ all_below p sections
     all_tested e h = all_from_yields_List (λ section. p (section_number section)) u f r ran (YieldsList-from_slice every e) h ∙ all_sections
 
-    -- `Section::ALL[..section as usize].iter().all(..)`
+    -- `Section::ALL[..usize::from(section)].iter().all(..)`
     pub earlier_tested : (section : Section) → iter_rest s ≡ take (section_number section) every → ((x : Bor Section) (b : Bool) (q : F) → Called g f (x, tt) b q → (q ≡ f) × (b ≡ p (section_number x.now))) → r ≡ all_below p (section_number section)
     earlier_tested section e h = all_from_yields_List (λ earlier. p (section_number earlier)) u f r ran (YieldsList-from_slice _ e) h ∙ all_earlier section

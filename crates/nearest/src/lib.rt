@@ -10,14 +10,7 @@ ghost use Rattle.choice.specs.Search.{under_in_lattice};
 ghost use Rattle.choice.specs.Table.{TanksThere, GroupLinked, PlacesOf, group_near, reaches_in, nearer_in};
 
 use plant::Plant;
-use sets::{Members, with_one, without_one};
-
-// The levels of the set x that are not in y.
-fn without_set(x: u16, y: u16) -> u16
-    ensures { (j : ℕ) → bit result j ≡ bit x j && not (bit y j) }
-{
-    x & !y
-}
+use sets::{Members, with_one, without_one, without_set};
 
 // A plant, and the levels at which each of its groups has a tank, as sets.
 #[derive(Clone, Copy)]

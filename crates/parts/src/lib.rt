@@ -39,7 +39,7 @@ fn are_apart(header: Header, a: Section, b: Section) -> bool
 fn apart_from_earlier(header: Header, section: Section) -> bool
     ensures { let k = section_number section in result ≡ all_below (apart header.entry.file.now k) k }
 {
-    Section::ALL[..section as usize]
+    Section::ALL[..usize::from(section)]
         .iter()
         .all(|earlier| are_apart(header, section, *earlier))
 }

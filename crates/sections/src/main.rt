@@ -14,6 +14,8 @@ fn main(rt: HostRuntime) {
     let mut input = [0u8; INPUT];
     let n = read_full(&mut rt.stdin(), &mut input);
     for kind in Section::ALL {
-        let _ = rt.stdout().write_all(section(&input[..n], kind as usize));
+        let _ = rt
+            .stdout()
+            .write_all(section(&input[..n], usize::from(kind)));
     }
 }

@@ -1,4 +1,5 @@
-// Sets of numbers under sixteen, a bit each.
+// Sets of numbers under sixteen, a bit each. A set is a bare `u16`, as the plant's record has it, which C reads, and as a plant file has it: a type of its
+// own would be made of a number at each array of the record and taken apart there.
 // The bound of an index is a clause and no type: a type would be made of a number at each call and taken apart at each array.
 #![tactic(auto)]
 
@@ -46,7 +47,14 @@ pub fn without_one(x: u16, i: usize) -> u16
     requires { i < 16 }
     ensures { (k : ℕ) → bit result k ≡ bit x k && not (eqb i k) }
 {
-    if has(x, i) { x ^ (1u16 << i) } else { x }
+    x & !(1u16 << i)
+}
+
+// The set x without the numbers of y.
+pub fn without_set(x: u16, y: u16) -> u16
+    ensures { (k : ℕ) → bit result k ≡ bit x k && not (bit y k) }
+{
+    x & !y
 }
 
 // The byte `yes` where level i is in the set x, and else `no`.
@@ -82,6 +90,7 @@ impl Iterator for Members {
         if self.rest == 0 {
             return None;
         }
+        // The standard library has no `From<u32>` for `usize`, and the number is below 16.
         let i = self.rest.trailing_zeros() as usize;
         self.rest = without_one(self.rest, i);
         Some(i)

@@ -1,10 +1,7 @@
--- A set with one number less, where it has the number, and the set itself where it has not.
-use Rattle.std.proofs.Common.{sym, ◌∙◌}
-use Rattle.sets.proofs.Single.{without_one_lem, never_there}
+-- A set with one number less: `without_one_lem` at the bit that the shift makes.
+use Rattle.std.proofs.Common.{arith}
+use Rattle.sets.proofs.Single.{without_one_lem}
 use Rattle.sets.proofs.without_one.Goals as goal
 
-pub returns-then-has : goal.returns-then-has
-returns-then-has c = λ j. without_one_lem c.args.x c.args.i c.requires j (sym c.has.ensures ∙ c.if-has.true)
-
-pub returns-else-has : goal.returns-else-has
-returns-else-has c = λ j. never_there c.args.x c.args.i j (sym c.has.ensures ∙ c.if-has.false)
+pub returns : goal.returns
+returns c = λ j. without_one_lem c.args.x c.args.i c.requires j (omega arith)
