@@ -90,7 +90,7 @@ impl Levels {
         ensures count { result.count ≡ lattice.now.n }
         ensures above { result.above ≡ lattice.now.sets }
         ensures under { result.under ≡ turned_sets lattice.now.sets }
-        ensures turned_ordered { OrderedSets result.count result.under }
+        ensures under_ordered { OrderedSets result.count result.under }
     {
         let count = usize::from(lattice.n);
         Levels {
@@ -101,9 +101,10 @@ impl Levels {
         }
     }
 
-    // The turned order, in which a join is a meet of this one.
+    // The turned order, in which a join is a meet of this one. That its sets are in order is a clause and no fact of `Levels`: a row asks it of one order
+    // alone.
     pub fn turned(&self) -> Levels
-        requires turned_ordered { OrderedSets self.now.count self.now.under }
+        requires { OrderedSets self.now.count self.now.under }
         ensures count { result.count ≡ self.now.count }
         ensures above { result.above ≡ self.now.under }
         ensures under { result.under ≡ self.now.above }
