@@ -28,6 +28,7 @@ fn add_above(further: &mut [u16; 16], strict: &[u16; 16], j: usize, x: u16)
     }
 }
 
+// Tried with `further.iter().zip(strict)`: the check does not find the proof, and there is no law of `.all` over pairs for what is said of each index.
 fn all_within(further: &[u16; 16], strict: &[u16; 16]) -> bool
     ensures { result ≡ all_below (is_within further.now strict.now) 16 }
 {
@@ -35,7 +36,7 @@ fn all_within(further: &[u16; 16], strict: &[u16; 16]) -> bool
 }
 
 // 8: the levels are in order. Each is under itself, and what lies above the levels strictly above it lies strictly above it: whole sets are
-// united and compared, and no single pair of levels. A level that is not used is in no set.
+// united and compared, and no single pair of levels. A level that is not used is in no set. The loop is no `.all`, since it changes `further` as it goes.
 pub fn in_order(lattice: &Lattice) -> bool
     requires { Layout lattice.now }
     ensures { result ≡ ordered lattice.now.n (under lattice.now) }

@@ -15,15 +15,19 @@ pub trait Cell: Copy {
     // How many bytes it takes.
     const WIDTH: usize;
 
+    // `Default` says of a value that it is a default of its type and not which, so a reader, whose promise names the zeros, would have them as a ghost and
+    // a law in place of this constant.
     const ZERO: Self;
 
     ghost WIDTH: { ℕ };
 
     ghost ZERO: { Self };
 
-    // the number at a place in bytes
+    // The number at a place in bytes.
     ghost number_at: { List ℕ → ℕ → Self };
 
+    // It reads at a place in longer bytes and not from a part that begins at the cell: `read(&part.bytes[at..])` is no plainer than `read(part.bytes, at)`,
+    // and the layout counts places from the section's own zero.
     fn read(bytes: &[u8], at: usize) -> Self
         requires { at + WIDTH ≤ length bytes.now }
         ensures { result ≡ number_at bytes.now at };

@@ -8,7 +8,7 @@ ghost use Rattle.lattice.specs.Sets.{under_in, OrderedSets};
 ghost use Rattle.lattice.specs.Table.{join_table, row_full, table_full};
 
 use lattice::Lattice;
-use rows::{Levels, numbers_to};
+use rows::Levels;
 
 // The table of joins. Of the turned order it is the table of meets. 255 stands for no join: with `Option<u8>` for an entry check 9 of a maximum plant's
 // eight lattices, built by itself, takes 23,000 instructions more (27,100 with 255), and written in Rust 15,000 more. Opening such a plant takes 40,900,
@@ -17,14 +17,15 @@ use rows::{Levels, numbers_to};
 fn table(levels: &Levels) -> [[u8; 16]; 16]
     ensures { result ≡ join_table levels.now.count (under_in levels.now.above) }
 {
-    let numbers = numbers_to(levels.count);
     let mut rows = [[255u8; 16]; 16];
     for i in 0..levels.count {
-        rows[i] = levels.join_row(&numbers, i);
+        rows[i] = levels.join_row(i);
     }
     rows
 }
 
+// It has the whole row and takes the front itself. Tried with the front lent, and with this test in the closure of `is_full`: the check does not find
+// there what `.contains` of a front says of the row.
 fn is_row_full(row: &[u8; 16], n: usize) -> bool
     requires { n ≤ 16 }
     ensures { result ≡ row_full n row.now }

@@ -12,14 +12,17 @@ use lattice::Lattice;
 use sets::{byte_where, has};
 use std::array;
 
-// Levels in order: bit j of above[i] where level j is at or above level i, and bit j of under[i] where it is at or under it.
+// Levels in order: bit j of above[i] where level j is at or above level i, and bit j of under[i] where it is at or under it. `numbers` are the entries
+// that each row begins with, made once for all rows.
 #[derive(Clone, Copy)]
 pub struct Levels {
     pub count: usize,
     pub above: [u16; 16],
     pub under: [u16; 16],
+    pub numbers: [u8; 16],
     pub ghost ordered: { OrderedSets count above },
     pub ghost turned: { Turned count above under },
+    pub ghost numbered: { numbers ≡ numbers_to count },
 }
 
 // Level i, whose set is x, goes into the turned sets of the levels of x.
@@ -52,7 +55,8 @@ fn is_all(x: u16, n: usize) -> bool
     u32::from(x) + 1 == 1u32 << n
 }
 
-// The numbers of the levels as bytes, and 255, which stands for none, from n on: `table` (joins) says why an entry is no `Option`.
+// The numbers of the levels as bytes, and 255, which stands for none, from n on: `table` (joins) says why an entry is no `Option`. A level is below 16,
+// so its number is made a byte by `as`, here and in a row: `try_from` would answer with an error that there cannot be.
 pub fn numbers_to(n: usize) -> [u8; 16]
     requires { n ≤ 16 }
     ensures { result ≡ numbers_to n }
@@ -86,18 +90,21 @@ impl Levels {
         ensures count { result.count ≡ lattice.now.n }
         ensures above { result.above ≡ lattice.now.sets }
         ensures under { result.under ≡ turned_sets lattice.now.sets }
-        ensures turned_ordered { OrderedSets result.count result.under }
+        ensures under_ordered { OrderedSets result.count result.under }
     {
+        let count = usize::from(lattice.n);
         Levels {
-            count: usize::from(lattice.n),
+            count,
             above: lattice.sets,
             under: turned_sets(&lattice.sets),
+            numbers: numbers_to(count),
         }
     }
 
-    // The turned order, in which a join is a meet of this one.
+    // The turned order, in which a join is a meet of this one. That its sets are in order is a clause and no fact of `Levels`: a row asks it of one order
+    // alone.
     pub fn turned(&self) -> Levels
-        requires turned_ordered { OrderedSets self.now.count self.now.under }
+        requires { OrderedSets self.now.count self.now.under }
         ensures count { result.count ≡ self.now.count }
         ensures above { result.above ≡ self.now.under }
         ensures under { result.under ≡ self.now.above }
@@ -106,15 +113,16 @@ impl Levels {
             count: self.count,
             above: self.under,
             under: self.above,
+            numbers: self.numbers,
         }
     }
 
     // Level i where it is above level j, and else the number of j. All sixteen entries are made: a level that is not used is under none.
-    fn upper_row(&self, numbers: &[u8; 16], i: usize) -> [u8; 16]
+    fn upper_row(&self, i: usize) -> [u8; 16]
         requires { i < 16 }
-        ensures { result ≡ upper_row self.now.above numbers.now i }
+        ensures { result ≡ upper_row self.now.above self.now.numbers i }
     {
-        array::from_fn(|j| byte_where(self.above[j], i, i as u8, numbers[j]))
+        array::from_fn(|j| byte_where(self.above[j], i, i as u8, self.numbers[j]))
     }
 
     // A level that is a join with level i is above it, so the others are passed over. Entries past the levels stay 255: a set that is not
@@ -134,12 +142,12 @@ impl Levels {
     }
 
     // Where each level is under level i or above it, which its two sets show at once, the join is the upper one and the row wants no search.
-    pub fn join_row(&self, numbers: &[u8; 16], i: usize) -> [u8; 16]
-        requires { (i < self.now.count) × (numbers.now ≡ numbers_to self.now.count) }
+    pub fn join_row(&self, i: usize) -> [u8; 16]
+        requires { i < self.now.count }
         ensures { result ≡ join_row self.now.count (under_in self.now.above) i }
     {
         if is_all(self.above[i] | self.under[i], self.count) {
-            self.upper_row(numbers, i)
+            self.upper_row(i)
         } else {
             self.searched_row(i)
         }

@@ -20,8 +20,8 @@ invariant_of-self c =
       });
     }
 
-pub put_row-requires-clause-skid : goal.put_row-requires-clause-skid
-put_row-requires-clause-skid c =
+pub put_row-requires : goal.put_row-requires
+put_row-requires c =
     let batch = c.args.self.now in
     rw c.from.ensures (stop_item _ batch.keeps.grants c.args.s (plant_valid _ batch.passes_test_20).counts.skids_fit c.in_ok-stop_at.ensures refl)
 
