@@ -23,7 +23,7 @@ fn parts_ok(m: &Monitor) -> bool
 }
 
 // 20. The plant comes first: its counts and links say where the changing parts are read, and lie within the record only once it has
-// passed.
+// passed. A record has none of the file's bytes that are always zero, so both tests of them are `true`.
 pub fn is_intact(m: &Monitor) -> bool
     ensures { result ≡ intact m.now.plant m.now }
 {
