@@ -21,9 +21,8 @@ use Rattle.rules.specs.Run.{runs, ends, TestedOnce}
 use Rattle.rules.proofs.Agree.{fresh_agree, intact_true}
 use Rattle.rules.proofs.IntactKept.{tested_once}
 use Rattle.std.specs.Simd.{first_chunks}
-use Rattle.calls.specs.declared.Kept.{Kept}
 use Rattle.calls.specs.declared.Request.{Request}
-use Rattle.calls.specs.Lent.{call_by, Keeps}
+use Rattle.calls.specs.Lent.{call_by}
 use Rattle.calls.specs.Requests.{OfBytes}
 use Rattle.calls.specs.RequestBytes.{call_at, calls_of}
 use Rattle.base.proofs.Chunks.{chunk_at}
@@ -100,13 +99,12 @@ module _ (P : Plant) (q : plant_refusal true true P ≡ 0) where
         ∙ ap (λ (x : ℕ). overlay out₀ 0 (runs (fresh P) (calls_of bytes i) ++ (x ∷ []))) (w ∙ ap (λ (x : Monitor). answer x.plant (view_of x.plant x) (call_at bytes i)) e)
         ∙ ap (overlay out₀ 0) (sym (ap (runs (fresh P)) (calls_more bytes i) ∙ runs_more (calls_of bytes i) (fresh P) (call_at bytes i)))
 
--- what the loop knows before request i: the record and the answers so far are the run's, and what is kept beside the record is kept
-pub record Serving (P : Plant) (bytes : List ℕ) (n : ℕ) (out₀ : List ℕ) (out : List ℕ) (m : Monitor) (kept : Kept) (i : ℕ) : Type 0 where
+-- what the loop knows before request i: the record and the answers so far are the run's
+pub record Serving (P : Plant) (bytes : List ℕ) (n : ℕ) (out₀ : List ℕ) (out : List ℕ) (m : Monitor) (i : ℕ) : Type 0 where
   pub at_most : i ≤ n
   pub size : length out ≡ length out₀
   pub state : m ≡ ends (fresh P) (calls_of bytes i)
   pub answers : out ≡ overlay out₀ 0 (runs (fresh P) (calls_of bytes i))
-  pub keeps : Keeps m kept
 
 -- before the first request
 pub first_record : (P : Plant) (bytes : List ℕ) → fresh P ≡ ends (fresh P) (calls_of bytes 0)

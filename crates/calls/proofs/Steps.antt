@@ -1,5 +1,5 @@
 -- The work of set, stop and gate does what the rules say, on every record that passes test 20. Assumes nothing.
-use mathlib.Core.Path.{◌≡◌, refl, sym, ap, ◌∙◌}
+use mathlib.Core.Path.{◌≡◌, refl, sym, ap, subst, ◌∙◌}
 use Prim.Native.Nat.{ℕ, ◌*◌, ◌<◌}
 use native.Mathlib.Omega.{arith}
 use mathlib.Core.Bool.{Bool, true, false, cond, not}
@@ -18,8 +18,9 @@ use Rattle.plant.specs.Right.{valid_right}
 use Rattle.choice.specs.Choice.{unset}
 use Rattle.rules.specs.declared.Monitor.{Monitor}
 use Rattle.rules.specs.Rules.{Call, set, start, stop, gate, unknown, skid_of, View, holds, conditions, refusal, accepted_answer, answer}
-use Rattle.rules.specs.Record.{view_of, level_at, fill_from, intact, changed, stepped, with_levels, with_task}
+use Rattle.rules.specs.Record.{Sized, view_of, level_at, fill_from, intact, changed, stepped, after, with_levels, with_task}
 use Rattle.rules.proofs.Accepted.{GateOk, gate_ok}
+use Rattle.rules.proofs.IntactKept.{Passes, after_stepped, after_passes}
 use Rattle.calls.specs.Work.{task_known, Granted, held_in, granted_in, get_row}
 use Rattle.calls.specs.Lent.{Does}
 use Rattle.calls.proofs.Rows.{row_same}
@@ -49,6 +50,16 @@ changed_plant m unknown = refl
 pub plant_kept : {m : Monitor} {c : Call} {r : ℕ} {left : Monitor} → Does m c r left → m.plant ≡ left.plant
 unfolding stepped
 plant_kept {m} {c} d = sym (ap (λ (x : Monitor). x.plant) d.leaves ∙ split (eqb (refusal m.plant (view_of m.plant m) c) 0) (λ h. rw h (changed_plant m c)) (λ h. rw h))
+
+-- a record that passes test 20 passes it after any call
+pub still_passes : {m : Monitor} {c : Call} {r : ℕ} {left : Monitor} → Sized m → intact m.plant m ≡ true → Does m c r left
+    → Sized left × (intact left.plant left ≡ true)
+still_passes {m} {c} {r} {left} Z i d =
+    let A : Passes m.plant m = record { kept = refl; sized = Z; passes = i } in
+    let B : Passes m.plant (after m.plant m c) = after_passes m.plant m A c in
+    let e : left ≡ after m.plant m c = d.leaves ∙ sym (after_stepped m.plant m A c) in
+    subst (λ (x : Monitor). Sized x × (intact x.plant x ≡ true)) (sym e)
+    (B.sized, subst (λ (p : Plant). intact p (after m.plant m c) ≡ true) (sym B.kept) B.passes)
 
 module _ (m : Monitor) (i : intact m.plant m ≡ true) where
   abbrev P : Plant

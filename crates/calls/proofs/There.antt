@@ -3,13 +3,13 @@ use mathlib.Core.Path.{◌≡◌, refl, sym, ap, ◌∙◌}
 use Prim.Native.Nat.{ℕ}
 use mathlib.Core.Bool.{Bool, true, false, not}
 use mathlib.Core.List.{List, [], ◌∷◌, map}
-use lib.ListN.{get_or}
-use Rattle.std.specs.Prelude.{Option, None, Some}
+use lib.ListN.{get_or, length}
+use Rattle.std.specs.Prelude.{Option, None, Some, MatchOption, Result, Ok, Err}
 use Rattle.std.specs.Bool.{then_some}
 use Rattle.std.specs.Option.{option_or}
 use Rattle.base.specs.Chain.{◌gives◌, first}
 use Rattle.refusal.specs.declared.Refusal.{Refusal}
-use Rattle.refusal.specs.Number.{number_of}
+use Rattle.refusal.specs.Number.{number_of, answer_of}
 use Rattle.calls.specs.Requests.{missing_item}
 use lib.Dec.{leb}
 use borrow.Author.Tests.{leb-true, leb-false, lt-leb, le-leb}
@@ -22,15 +22,17 @@ pub no_right : (r : ℕ) {x : Bool} → x ≡ valid_right r → not x ≡ leb ri
 no_right r e = ap not e ∙ split (leb r 2) (λ h. rw h (sym (lt-leb 3 r (omega (arith, leb-true r 2 h))))) (λ h. rw h (sym (le-leb 3 r (leb-false r 2 h))))
 
 -- of three items the first that is missing
-pub first_there : (l : List (Option Refusal)) {x : Refusal} → Some x ≡ option_or (option_or (get_or l 0 None) (get_or l 1 None)) (get_or l 2 None)
-    → number_of x ≡ first (map missing_item l)
-first_there [] e = cc
-first_there (Some y ∷ l) e = cc
-first_there (None ∷ []) e = cc
-first_there (None ∷ Some y ∷ l) e = cc
-first_there (None ∷ None ∷ []) e = cc
-first_there (None ∷ None ∷ Some y ∷ l) e = cc
-first_there (None ∷ None ∷ None ∷ l) e = cc
+pub first_there : (l : List (Option Refusal)) → length l ≡ 3 → {A : Type 0} (a : A) (r : Result A Refusal)
+    → MatchOption (option_or (option_or (get_or l 0 None) (get_or l 1 None)) (get_or l 2 None)) (r ≡ Ok a) (λ x. r ≡ Err x)
+    → answer_of r ≡ first (map missing_item l)
+first_there [] n a r e = absurd (omega (arith, n))
+first_there (x ∷ []) n a r e = absurd (omega (arith, n))
+first_there (x ∷ y ∷ []) n a r e = absurd (omega (arith, n))
+first_there (x ∷ y ∷ z ∷ w ∷ l) n a r e = absurd (omega (arith, n))
+first_there (Some x ∷ y ∷ z ∷ []) n a r e = ap answer_of e
+first_there (None ∷ Some y ∷ z ∷ []) n a r e = ap answer_of e
+first_there (None ∷ None ∷ Some z ∷ []) n a r e = ap answer_of e
+first_there (None ∷ None ∷ None ∷ []) n a r e = ap answer_of e
 
 -- three tests of items, each with its refusal
 three_tested : (a b c : Bool) (x y z : Refusal)

@@ -1,6 +1,5 @@
 // Opening's checks 3 and 7 to 12 of a plant record, in their order.
-// That the counts are within the record (`Fits`) is a clause of each step: a struct round the plant with that fact would stand before each part of the
-// plant in every other clause, and be no plainer.
+// That the counts are within the record (`Fits`) is a clause of `check_lattices` alone, as entries has it.
 #![tactic(auto)]
 
 ghost use Rattle.std.specs.Prelude.{◌≡◌};
@@ -14,7 +13,8 @@ use levels::check_lattice;
 use plant::Plant;
 use refusal::Refusal;
 
-// 3: the counts.
+// 3: the counts. `Header::counts_ok` is the same of a file. One function of both would take the count as a closure and promise its test of any closure
+// that tells counts, and each of the two would still state its own: three contracts in place of two.
 fn counts_in(p: &Plant) -> bool
     ensures { result ≡ counts_in p.now }
 {
@@ -48,17 +48,17 @@ fn check_lattices(p: &Plant) -> Result<(), Refusal>
 // Checks 3 and 7 to 12 of a plant record. The two tests say whether the bytes of the file that are always zero are: those of the lattice records,
 // and those of the others. A record has no such bytes.
 #[tactic(auto, unfolding(plant::specs::Checks::plant_refusal, plant::specs::Checks::lattices_refusal, plant::specs::Checks::items_refusal))]
-pub fn check_plant(p: &Plant, zeros7: bool, zeros10: bool) -> Result<(), Refusal>
-    ensures { answer_of result ≡ plant_refusal zeros7 zeros10 p.now }
+pub fn check_plant(p: &Plant, lattice_zeros: bool, other_zeros: bool) -> Result<(), Refusal>
+    ensures { answer_of result ≡ plant_refusal lattice_zeros other_zeros p.now }
 {
     if !counts_in(p) {
         return Err(Refusal::CountOutOfRange);
     }
-    if !zeros7 {
+    if !lattice_zeros {
         return Err(Refusal::LatticeMalformed);
     }
     check_lattices(p)?;
-    if !zeros10 {
+    if !other_zeros {
         return Err(Refusal::EntryOutOfRange);
     }
     check_items(p)

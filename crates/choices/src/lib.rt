@@ -5,19 +5,17 @@
 ghost use Rattle.std.specs.Prelude.{◌<◌};
 ghost use Rattle.choice.specs.Table.{Linked, ChoicesIn, Put};
 
-use nearest::{nearest_for, places_of};
+use nearest::Places;
 use plant::Plant;
-use sets::has;
+use sets::Members;
 
-// Tank o goes to the entries of its group g for the levels of the set `near`. The loop has a fixed length, as in `above_in`.
+// Tank o goes to the entries of its group g for the levels of the set `near`.
 fn put_choices(made: &mut [Option<u8>; 128], g: usize, near: u16, o: u8)
     requires { g < 8 }
     ensures { Put g near o made.old made.new }
 {
-    for v in 0..16 {
-        if has(near, v) {
-            made[g * 16 + v] = Some(o);
-        }
+    for v in Members::of(near) {
+        made[g * 16 + v] = Some(o);
     }
 }
 
@@ -28,14 +26,11 @@ pub fn make_choices(p: &Plant) -> [Option<u8>; 128]
     requires { Linked p.now }
     ensures { ChoicesIn p.now result }
 {
-    let places = places_of(p);
+    let places = Places::of(p);
     let mut made = [None; 128];
     for o in (0..p.tanks).rev() {
         let i = usize::from(o);
-        let g = usize::from(p.tank_group[i]);
-        let l = usize::from(p.requirement_lattice[usize::from(p.group_requirement[g])]);
-        let near = nearest_for(&p.lattice_sets, l, places[g], usize::from(p.tank_level[i]));
-        put_choices(&mut made, g, near, o);
+        put_choices(&mut made, usize::from(p.tank_group[i]), places.near(i), o);
     }
     made
 }

@@ -35,12 +35,12 @@ pub fn need_once(p: &Plant, needs: &mut [Option<u16>; 16], t: usize) -> u16
     requires needed { Needed p.now needs.old }
     ensures { NeedOf p.now t result × Needed p.now needs.new }
 {
-    if let Some(known) = needs[t] {
-        return known;
-    }
-    let need = need_of(p, t);
-    needs[t] = Some(need);
-    need
+    *needs[t].get_or_insert_with(
+        ||
+            requires { (t < 16) × (p.now.groups ≤ 8) }
+            ensures { NeedOf p.entry.now t result }
+        { need_of(p, t) },
+    )
 }
 
 // The level that the skid has in the task for the requirement of group g, if it is set.

@@ -1,21 +1,22 @@
 // Opening's check 10 on a record: the links and the tanks, and with crate tasks all of it.
-// That the counts are within the record (`Fits`, or the bound of one count) is a clause of each step that leans on it: a struct round the plant with that
-// fact would stand before each part of the plant in every other clause, and be no plainer.
+// That the counts are within the record (`Fits`) is a clause and no type. Tried: a struct round `&Plant` with `impl Model`, whose value is the plant and
+// whose invariant is `Fits`. The other clauses stay as they are, but `numbers_ok`, which the check proves alone here, is left with three goals, also with
+// the view rewritten and `links_in` and `front_below` given to the search; and the struct has thirteen lines for three clauses, and each function has to
+// take the plant out of it first.
 #![tactic(auto)]
 
-ghost use Rattle.std.specs.Prelude.{◌≡◌, ◌<◌, ◌≤◌};
+ghost use Rattle.std.specs.Prelude.{◌≡◌, ◌<◌, length};
 ghost use Rattle.base.specs.Below.{all_below};
 ghost use Rattle.plant.specs.Checks.{Fits, LinksIn, entry_below, tank_fits, numbers_ok};
 
 use plant::Plant;
 use tasks::{skids_fit, tasks_fit};
 
-// Each of the first n entries is below a bound.
-fn all_below(entries: &[u8; 8], n: u8, bound: u8) -> bool
-    requires { n ≤ 8 }
-    ensures { result ≡ all_below (entry_below entries.now bound) n }
+// Each entry is below a bound.
+fn all_below(entries: &[u8], bound: u8) -> bool
+    ensures { result ≡ all_below (entry_below entries.now bound) (length entries.now) }
 {
-    entries[..usize::from(n)].iter().all(|entry| *entry < bound)
+    entries.iter().all(|entry| *entry < bound)
 }
 
 // A tank is judged in the lattice of its group's requirement.
@@ -41,14 +42,18 @@ fn tanks_fit(p: &Plant) -> bool
     (0..usize::from(p.tanks)).all(|o| tank_fits(p, o))
 }
 
-#[tactic(auto, using(plant::proofs::Links::links_in), unfolding(plant::specs::Checks::numbers_ok))]
+#[tactic(auto, using(plant::proofs::Links::links_in, plant::proofs::Links::front_below), unfolding(plant::specs::Checks::numbers_ok))]
 pub fn numbers_ok(p: &Plant) -> bool
     requires { Fits p.now }
     ensures { result ≡ numbers_ok p.now }
 {
-    all_below(&p.requirement_lattice, p.requirements, p.lattices)
-        && all_below(&p.group_requirement, p.groups, p.requirements)
-        && tanks_fit(p)
+    all_below(
+        &p.requirement_lattice[..usize::from(p.requirements)],
+        p.lattices,
+    ) && all_below(
+        &p.group_requirement[..usize::from(p.groups)],
+        p.requirements,
+    ) && tanks_fit(p)
         && tasks_fit(p)
         && skids_fit(p)
 }

@@ -30,27 +30,12 @@ pub fn fresh_monitor(plant: Plant) -> Monitor
     monitor_with(plant, NONE)
 }
 
-// Written out: a derived `Default` promises of each field by itself that it is zero, and a proof would have all fifteen to put together.
+// Each count is 0, which is out of its range.
+#[tactic(auto, using(plant::proofs::Zeros::is_no_plant))]
 fn no_plant() -> Plant
     ensures { result ≡ no_plant }
 {
-    Plant {
-        lattices: 0,
-        requirements: 0,
-        groups: 0,
-        tanks: 0,
-        tasks: 0,
-        skids: 0,
-        lattice_sizes: [0u8; 8],
-        lattice_sets: [0u16; 128],
-        requirement_lattice: [0u8; 8],
-        group_requirement: [0u8; 8],
-        tank_group: [0u8; 64],
-        tank_level: [0u8; 64],
-        task_requirements: [0u8; 16],
-        task_rights: [0u8; 128],
-        skid_tasks: [0u16; 8],
-    }
+    Plant::default()
 }
 
 // 20 refuses it, since its counts are out of range.

@@ -1,5 +1,7 @@
 // The writer of the list of rights held: how many there are, and then each as skid, tank, right, rising in that order.
-// `Known` is a clause of each step: a struct that holds the record with that fact would stand before each part of it in every other clause.
+// `Known` is a clause and no type: `write_held` is lent a record, and a struct with that fact would be made there and taken apart again at `is_held` and at
+// the counts. That s and o are below the record's counts is a clause as well: s goes through three functions as it is, each is lent the record beside it,
+// and a type of such a number would hold the record a second time.
 #![tactic(auto)]
 
 ghost use Rattle.std.specs.Prelude.{◌≡◌, [], ◌∷◌, ◌/◌, ◌<◌, ◌≤◌, length};

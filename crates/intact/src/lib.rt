@@ -1,6 +1,5 @@
 // Test 20: whether a monitor's record can be relied on. A record can come from anywhere, so nothing is asked of it beforehand.
-// That the counts are within the record (`Fits`) is a clause of `parts_ok`: a struct round the plant with that fact would stand before each part of the
-// plant in every other clause, and be no plainer.
+// That the counts are within the record (`Fits`) is a clause of one function, which is lent the monitor whole, as entries has it.
 #![tactic(auto)]
 
 ghost use Rattle.std.specs.Prelude.{◌≡◌, ℕ, ◌<◌};

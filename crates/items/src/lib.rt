@@ -1,6 +1,6 @@
 // Opening's checks 10 to 12 on the tanks, tasks and skids of a plant, in their order.
-// That the counts are within the record (`Fits`, or the bound of one count) is a clause of each step that leans on it: a struct round the plant with that
-// fact would stand before each part of the plant in every other clause, and be no plainer.
+// That the counts are within the record (`Fits`) is a clause and no type, as entries has it.
+// The bounds of t and g are clauses and no types: a range makes each, and a type would be made of it at each turn and taken apart at each array.
 #![tactic(auto)]
 
 ghost use Rattle.std.specs.Prelude.{◌≡◌, ℕ, ◌+◌, ◌*◌, ◌<◌, ◌≤◌};
@@ -14,27 +14,20 @@ use plant::Plant;
 use refusal::Refusal;
 use sets::has;
 
-// The place of a group and a level in a table that has one for each of them.
-fn place(group: u8, level: u8) -> usize
-    requires { group < 8 }
-    ensures { (result ≡ level * 8 + group) × (result < 2048) }
-{
-    usize::from(level) * 8 + usize::from(group)
-}
-
-// 11: no two tanks of one group at one level: each tank in turn finds its place free, and takes it.
+// 11: no two tanks of one group at one level: each tank in turn finds its place, one for each level and group, free, and takes it.
 fn levels_distinct(p: &Plant) -> bool
     requires fits { Fits p.now }
     requires groups_in { (o : ℕ) → o < p.now.tanks → group_of p.now o < 8 }
     ensures { result ≡ levels_distinct p.now }
 {
-    let mut taken = [false; 2048];
+    let mut taken = [[false; 8]; 256];
     for o in 0..usize::from(p.tanks) {
-        let at = place(p.tank_group[o], p.tank_level[o]);
-        if taken[at] {
+        let level = usize::from(p.tank_level[o]);
+        let group = usize::from(p.tank_group[o]);
+        if taken[level][group] {
             return false;
         }
-        taken[at] = true;
+        taken[level][group] = true;
     }
     true
 }

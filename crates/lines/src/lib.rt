@@ -61,7 +61,8 @@ fn put_held(text: &mut Writer, held: &[u8])
 }
 
 // What a batch answered, and, where it was accepted with 0, the two parts of its buffer. A count is one byte, so whatever the batch answered, its rights
-// take at most 3 * 255 bytes of `held` and 12 * 255 of the text. A request's number has at most five digits, so an answer takes at most ten.
+// take at most 3 * 255 bytes of `held` and 12 * 255 of the text. A request's number has at most five digits, so an answer takes at most ten. `number` is
+// no `Refusal`, since the promise is of any number that a batch may have answered.
 pub fn print_outcome(text: &mut Writer, number: u8, answers: &[u8], held: &[u8])
     requires in_range { (length answers.now < 100000) × (766 ≤ length held.now) }
     requires room { text.old.at + length answers.now * 10 + 3069 ≤ length text.old.bytes.now }

@@ -1,19 +1,28 @@
 // The levels for which a tank is nearest, as sets.
 // The bound of an index is a clause and no type: a type would be made of a number at each call and taken apart at each array.
-// What is known of the tanks (`TanksThere`) is a clause and no type: a start knows more of the plant than a table asks.
 #![tactic(auto)]
 
 ghost use Rattle.std.specs.Prelude.{◌≡◌, not, ◌&&◌, ℕ, ◌<◌, get_or};
 ghost use Rattle.base.specs.Below.{any_below};
 ghost use Rattle.base.specs.Bits.{bit};
+ghost use Rattle.plant.specs.Plant.{group_of};
 ghost use Rattle.choice.specs.Search.{under_in_lattice};
-ghost use Rattle.choice.specs.Table.{TanksThere, PlacesOf, reaches_in, nearer_in};
+ghost use Rattle.choice.specs.Table.{TanksThere, GroupLinked, PlacesOf, group_near, reaches_in, nearer_in};
 
 use plant::Plant;
-use sets::{with_one, with_set, without_one, without_set};
+use sets::{Members, with_one, without_one, without_set};
 
-// The levels at which each group has a tank, as sets.
-pub fn places_of(p: &Plant) -> [u16; 8]
+// A plant, and the levels at which each of its groups has a tank, as sets.
+#[derive(Clone, Copy)]
+pub struct Places<'a> {
+    pub plant: &'a Plant,
+    pub at_group: [u16; 8],
+    pub ghost tanks_there: { TanksThere plant.now },
+    pub ghost known: { (g : ℕ) → g < 8 → PlacesOf plant.now g (get_or at_group g 0) },
+}
+
+// The levels at which each group has a tank.
+fn places_of(p: &Plant) -> [u16; 8]
     requires { TanksThere p.now }
     ensures { (g : ℕ) → g < 8 → PlacesOf p.now g (get_or result g 0) }
 {
@@ -25,15 +34,14 @@ pub fn places_of(p: &Plant) -> [u16; 8]
     places
 }
 
-// What lies at or above a level of the set `these` in lattice l. It looks at all 16 levels and never leaves early, so that the loop has a fixed
-// length.
+// What lies at or above a level of the set `these` in lattice l.
 fn above_in(sets: &[u16; 128], l: usize, these: u16) -> u16
     requires { l < 8 }
     ensures { (v : ℕ) → bit result v ≡ any_below (reaches_in sets.now l these v) 16 }
 {
     let mut all: u16 = 0;
-    for y in 0..16 {
-        all = with_set(all, these, y, sets[l * 16 + y]);
+    for y in Members::of(these) {
+        all |= sets[l * 16 + y];
     }
     all
 }
@@ -48,4 +56,29 @@ pub fn nearest_for(sets: &[u16; 128], l: usize, places: u16, x: usize) -> u16
     let nearer = without_one(places & own, x);
     let taken = above_in(sets, l, nearer);
     without_set(own, taken)
+}
+
+impl<'a> Places<'a> {
+    pub fn of(plant: &'a Plant) -> Places<'a>
+        requires { TanksThere plant.now }
+        ensures { result.plant.now ≡ plant.now }
+    {
+        Places {
+            plant,
+            at_group: places_of(plant),
+        }
+    }
+
+    // The levels for which tank o is nearest in its group.
+    pub fn near(&self, o: usize) -> u16
+        requires tank { o < self.now.plant.now.tanks }
+        requires links { GroupLinked self.now.plant.now (group_of self.now.plant.now o) }
+        ensures { (v : ℕ) → bit result v ≡ group_near self.now.plant.now (group_of self.now.plant.now o) v o }
+    {
+        let p = self.plant;
+        let g = usize::from(p.tank_group[o]);
+        let l = usize::from(p.requirement_lattice[usize::from(p.group_requirement[g])]);
+        let x = usize::from(p.tank_level[o]);
+        nearest_for(&p.lattice_sets, l, self.at_group[g], x)
+    }
 }

@@ -1,6 +1,8 @@
 // The running tasks of a monitor's record and their chosen tanks: whether each skid may run its task, and each tank is one of its group.
-// That the counts are within the record (`Fits`, or the bound of one count) is a clause of each step that leans on it: a struct round the plant with that
-// fact would stand before each part of the plant in every other clause, and be no plainer.
+// That the counts are within the record (`Fits`) is a clause: the functions are lent the monitor whole, and a struct round its plant would be a second
+// parameter beside it. `task_ok` and `tank_ok` ask the bound of their one count and no more.
+// The bounds of s, t and g are clauses and no types: s goes through three functions as it is, and each reads an array at it, so that a type would be
+// taken apart in each.
 #![tactic(auto)]
 
 ghost use Rattle.std.specs.Prelude.{◌≡◌, ◌<◌, ◌≤◌, get_or};

@@ -58,7 +58,8 @@ pub fn start_late(
     Ok(())
 }
 
-// Start in a list, which keeps the table of choices and the groups of its tasks.
+// Start in a list, which keeps the table of choices and the groups of its tasks. The two are lent and not the whole `Kept`: a start asks nothing of the
+// rights granted, and of a `Kept` it would ask that those are right as well.
 pub fn start_at(
     m: &mut Monitor,
     made: &mut Option<[Option<u8>; 128]>,

@@ -3,7 +3,7 @@
 // That a record passes test 20 is a clause and no type: C holds records that do not pass, and each step would take the type apart.
 #![tactic(auto)]
 
-ghost use Rattle.std.specs.Prelude.{◌≡◌, true, ◌*◌, ◌<◌, length};
+ghost use Rattle.std.specs.Prelude.{◌≡◌, true, ◌*◌, ◌<◌};
 ghost use Rattle.refusal.specs.Number.{answer_of};
 ghost use Rattle.rules.specs.Rules.{set, stop};
 ghost use Rattle.rules.specs.Record.{intact, fill_from};
@@ -33,9 +33,8 @@ pub fn set_at(m: &mut Monitor, s: u8, t: u8, d: u8, v: u8) -> Result<(), Refusal
 }
 
 // A skid's row of eight, its choices or the rights granted to it: written whole, so that nothing stale is left.
-pub fn put_row(rows: &mut [u8; 64], s: usize, row: &[u8])
-    requires skid { s < 8 }
-    requires eight { length row.now ≡ 8 }
+pub fn put_row(rows: &mut [u8; 64], s: usize, row: &[u8; 8])
+    requires { s < 8 }
     ensures { rows.new ≡ fill_from rows.old (s * 8) (get_row row.now) 8 }
 {
     rows[s * 8..s * 8 + 8].copy_from_slice(row);
@@ -46,7 +45,7 @@ pub fn grant_row(granted: &mut [u8; 64], p: &Plant, s: usize, t: usize)
     requires { (s < 8) × (t < 16) }
     ensures { granted.new ≡ fill_from granted.old (s * 8) (rights_in p.now.task_rights t) 8 }
 {
-    put_row(granted, s, &p.task_rights[t * 8..t * 8 + 8]);
+    put_row(granted, s, &p.task_rights.as_chunks::<8>().0[t]);
 }
 
 // Stop: 21, or the skid runs nothing and has no tank.

@@ -1,6 +1,5 @@
 // The stored levels of a monitor's record: whether each is unset or one of its lattice.
-// That counts are within the record is a clause of each step that leans on it: a struct round the plant with that fact would stand before each part of
-// the plant in every other clause, and be no plainer.
+// Each function asks the bound of the counts that it reads and no more, so the bound is a clause: a type of a plant that fits would ask for all six.
 #![tactic(auto)]
 
 ghost use Rattle.std.specs.Prelude.{◌≡◌, ℕ, true, ◌<◌, ◌≤◌};

@@ -1,6 +1,6 @@
 // Check 10 on the tasks and skids of a plant: no requirement, right or task past its count.
-// That counts are within the record is a clause of each step that leans on it: a struct round the plant with that fact would stand before each part of
-// the plant in every other clause, and be no plainer.
+// Each function asks the bound of the counts that it reads and no more, so the bound is a clause: a type of a plant that fits would ask for all six.
+// The bound of an index is a clause too: a range makes t and g, and a type would be made of each and taken apart at the array.
 #![tactic(auto)]
 
 ghost use Rattle.std.specs.Prelude.{◌≡◌, ◌<◌, ◌≤◌};

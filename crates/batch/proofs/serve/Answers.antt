@@ -1,9 +1,7 @@
 -- Each turn is the run's next call.
 use Rattle.std.proofs.Common.{◌≡◌, ◌/◌, length, refl, arith}
 use Rattle.std.proofs.Math.ListN.{length-set}
-use Rattle.plant.proofs.Sound.{sound_law}
-use Rattle.plant.proofs.Valid.{valid}
-use Rattle.calls.proofs.Served.{still_intact, chunk_call, next_record, next_out, first_record, first_out}
+use Rattle.calls.proofs.Served.{chunk_call, next_record, next_out, first_record, first_out}
 use Rattle.batch.proofs.serve.Goals as goal
 
 pub loop-i-init : goal.loop-i-init
@@ -12,15 +10,9 @@ loop-i-init c =
     record {
       at_most = omega arith;
       size = refl;
-      state = rw c.fresh_monitor-m.ensures (first_record p c.args.requests.now);
+      state = rw c.new-batch.ensures (first_record p c.args.requests.now);
       answers = first_out p c.args.requests.now c.args.out.now;
-      keeps = rw c.fresh_monitor-m.ensures (c.new-kept.ensures p (valid p ((sound_law p).0 c.requires.plant_passes)).counts.skids_fit);
     }
-
-pub turn-requires : goal.turn-requires
-turn-requires c =
-    let v = c.loop-i.invariant in
-    record { passes_test_20 = still_intact c.args.p c.requires.plant_passes c.args.requests.now c.loop-i.i v.state; keeps = v.keeps }
 
 pub loop-i-preserved : goal.loop-i-preserved
 loop-i-preserved c =
@@ -28,13 +20,12 @@ loop-i-preserved c =
     let v = c.loop-i.invariant in
     let bytes = c.args.requests.now in
     let e = chunk_call bytes (length bytes / 5) c.loop-i.i _ (omega (arith, c.as_chunks.ensures.front_len)) (rw c.as_chunks.ensures.front at c.from.ensures) in
-    let h = rw e at c.turn.ensures.does in
+    let h = rw e at c.turn.ensures in
     record {
       at_most = omega (arith, c.as_chunks.ensures.front_len);
       size = simp length-set v.size;
       state = next_record p c.requires.plant_passes bytes c.loop-i.i v.state h.leaves;
       answers = next_out p c.requires.plant_passes bytes c.loop-i.i v.state c.args.out.now (omega (arith, c.as_chunks.ensures.front_len)) v.answers h.answers;
-      keeps = c.turn.ensures.keeps;
     }
 
 pub returns : goal.returns

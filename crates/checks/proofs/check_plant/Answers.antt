@@ -14,4 +14,4 @@ check_items-requires c = fits _ (sym c.counts_in.ensures ∙ c.if-not-counts_in.
 pub returns-in_err-check_lattices : goal.returns-in_err-check_lattices
 returns-in_err-check_lattices c =
     handed_on _ _ c.from_residual.ensures
-    ∙ refused_lattice _ _ _ c.counts_in.ensures (ap not c.if-not-counts_in.false) (ap not c.if-not-zeros7.false) c.in_err-check_lattices.ensures (not_0 _)
+    ∙ refused_lattice _ _ _ c.counts_in.ensures (ap not c.if-not-counts_in.false) (ap not c.if-not-lattice_zeros.false) c.in_err-check_lattices.ensures (not_0 _)

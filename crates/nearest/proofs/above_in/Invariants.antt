@@ -1,6 +1,6 @@
--- The sets of the levels passed are joined.
-use Rattle.choice.proofs.Levels.{UnionTo}
+-- The sets of the levels that are no longer in the rest are joined.
+use Rattle.choice.proofs.Levels.{UnionBut}
 use Rattle.nearest.proofs.above_in.Given as goal
 
 abbrev pub invariant-loop-y : goal.invariant-loop-y
-invariant-loop-y l = UnionTo l.sets l.l l.these l.all l.y
+invariant-loop-y l = UnionBut l.sets l.l l.these l.all l.y-iterator.rest

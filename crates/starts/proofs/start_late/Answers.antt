@@ -18,8 +18,8 @@ returns-in_err-row c =
 pub bounds-m-from : goal.bounds-m-from
 bounds-m-from c = rw c.from-3.ensures (skid_fits c.requires.reads.startable)
 
-pub put_row-requires-clause-skid : goal.put_row-requires-clause-skid
-put_row-requires-clause-skid c = rw c.from-4.ensures (skid_fits c.requires.reads.startable)
+pub put_row-requires : goal.put_row-requires
+put_row-requires c = rw c.from-4.ensures (skid_fits c.requires.reads.startable)
 
 pub returns : goal.returns
 returns c =

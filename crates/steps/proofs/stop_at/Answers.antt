@@ -11,8 +11,8 @@ returns-then-m-s c = stop_does _ c.requires _ (simp (le-leb _ _ c.if-m-s.true)) 
 pub bounds-m-from : goal.bounds-m-from
 bounds-m-from c = omega (arith, (plant_valid _ c.requires).counts.skids_fit)
 
-pub put_row-requires-clause-skid : goal.put_row-requires-clause-skid
-put_row-requires-clause-skid c = omega (arith, (plant_valid _ c.requires).counts.skids_fit)
+pub put_row-requires : goal.put_row-requires
+put_row-requires c = omega (arith, (plant_valid _ c.requires).counts.skids_fit)
 
 pub returns : goal.returns
 returns c = stop_does _ c.requires _ (simp (lt-leb _ _ c.if-m-s.false)) (rw (c.put_row.ensures, c.from.ensures, c.from-2.ensures))
