@@ -9,6 +9,7 @@ ghost use Rattle.cells.specs.Cells.{cells_of, section_cells};
 use header::word_at;
 use layout::Section;
 use parts::{Part, PlantFile};
+use std::marker::PhantomData;
 
 // A number that a cell holds.
 pub trait Cell: Copy {
@@ -73,8 +74,8 @@ pub struct Field {
     pub ghost some: { 0 < run },
 }
 
-// Where cell k of the records of a part stands, and that it lies within them. Every reader of a section takes its bounds from here. That a field lies
-// within a part is a fact of both, so each reader has it as a clause.
+// Where cell k of the records of a part stands, and that it lies within them. Every reader of a section takes its bounds from here. That a field
+// lies within a part is a clause of the readers of any part; for a section of a file `SectionField` has it.
 fn place_of<T: Cell>(part: Part, field: Field, k: usize) -> usize
     requires within { field.from + field.run * T.WIDTH ≤ part.width }
     requires in_range { k < part.count * field.run }
@@ -96,17 +97,21 @@ pub fn read_cells<T: Cell, const N: usize>(part: Part, field: Field) -> [T; N]
     cells
 }
 
+// A field of the records of one section, with the type of the number that a cell holds: it lies within each of them.
+#[derive(Drop)]
+pub struct SectionField<T: Cell> {
+    pub section: Section,
+    pub field: Field,
+    pub number: PhantomData<T>,
+    pub ghost within: { field.from + field.run * T.WIDTH ≤ width (section_number section) },
+}
+
 // The same of a section of a file. Without this function between, the compiler copies each array once more: opening takes 60 instructions more.
-pub fn read_field<T: Cell, const N: usize>(
-    file: PlantFile,
-    section: Section,
-    field: Field,
-) -> [T; N]
-    requires within { field.from + field.run * T.WIDTH ≤ width (section_number section) }
-    requires room { limit (section_number section) * field.run ≤ N }
-    ensures { let k = section_number section in result ≡ section_cells T.number_at T.WIDTH file.entry.header.file.now k field.from field.run (replicate N T.ZERO) }
+pub fn read_field<T: Cell, const N: usize>(file: PlantFile, from: SectionField<T>) -> [T; N]
+    requires { limit (section_number from.section) * from.field.run ≤ N }
+    ensures { let k = section_number from.section in result ≡ section_cells T.number_at T.WIDTH file.entry.header.file.now k from.field.from from.field.run (replicate N T.ZERO) }
 {
-    read_cells(file.part(section), field)
+    read_cells(file.part(from.section), from.field)
 }
 
 // Whether byte `from` of each record of a part is zero.

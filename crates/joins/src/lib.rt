@@ -24,8 +24,8 @@ fn table(levels: &Levels) -> [[u8; 16]; 16]
     rows
 }
 
-// It has the whole row and takes the front itself. Tried with the front lent, and with this test in the closure of `is_full`: the check does not find
-// there what `.contains` of a front says of the row.
+// It has the whole row and takes the front itself. Tried with this test in the closure of `is_full`: the check does not find there what `.contains` of a
+// front says of the row.
 fn is_row_full(row: &[u8; 16], n: usize) -> bool
     requires { n ≤ 16 }
     ensures { result ≡ row_full n row.now }
