@@ -17,6 +17,7 @@ use Rattle.plant.specs.Plant.{levels_of}
 use Rattle.plant.specs.Right.{valid_right}
 use Rattle.choice.specs.Choice.{unset}
 use Rattle.rules.specs.declared.Monitor.{Monitor}
+use Rattle.rules.specs.declared.Tested.{Tested}
 use Rattle.rules.specs.Rules.{Call, set, start, stop, gate, unknown, skid_of, View, holds, conditions, refusal, accepted_answer, answer}
 use Rattle.rules.specs.Record.{Sized, view_of, level_at, fill_from, intact, changed, stepped, after, with_levels, with_task}
 use Rattle.rules.proofs.Accepted.{GateOk, gate_ok}
@@ -51,15 +52,15 @@ pub plant_kept : {m : Monitor} {c : Call} {r : ℕ} {left : Monitor} → Does m 
 unfolding stepped
 plant_kept {m} {c} d = sym (ap (λ (x : Monitor). x.plant) d.leaves ∙ split (eqb (refusal m.plant (view_of m.plant m) c) 0) (λ h. rw h (changed_plant m c)) (λ h. rw h))
 
--- a record that passes test 20 passes it after any call
-pub still_passes : {m : Monitor} {c : Call} {r : ℕ} {left : Monitor} → Sized m → intact m.plant m ≡ true → Does m c r left
-    → Sized left × (intact left.plant left ≡ true)
-still_passes {m} {c} {r} {left} Z i d =
-    let A : Passes m.plant m = record { kept = refl; sized = Z; passes = i } in
+-- a record that has passed test 20 passes it after any call
+pub still_passes : (tested : Tested) {c : Call} {r : ℕ} {left : Monitor} → Does tested.monitor c r left
+    → record { sized : Sized left; passes_test_20 : intact left.plant left ≡ true }
+still_passes tested {c} {r} {left} d =
+    let m = tested.monitor in
+    let A : Passes m.plant m = record { kept = refl; sized = tested.sized; passes = tested.passes_test_20 } in
     let B : Passes m.plant (after m.plant m c) = after_passes m.plant m A c in
-    let e : left ≡ after m.plant m c = d.leaves ∙ sym (after_stepped m.plant m A c) in
-    subst (λ (x : Monitor). Sized x × (intact x.plant x ≡ true)) (sym e)
-    (B.sized, subst (λ (p : Plant). intact p (after m.plant m c) ≡ true) (sym B.kept) B.passes)
+    rw (d.leaves, ← after_stepped m.plant m A c)
+    (record { sized = B.sized; passes_test_20 = subst (λ (p : Plant). intact p (after m.plant m c) ≡ true) (sym B.kept) B.passes })
 
 module _ (m : Monitor) (i : intact m.plant m ≡ true) where
   abbrev P : Plant

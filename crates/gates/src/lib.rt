@@ -1,19 +1,17 @@
 // The work of a gate on a record that has passed test 20: by the record, or in a list by the rights granted.
 // The bound of an index is a clause and no type: a type would be made of a number at each call and taken apart at each array.
-// That a record passes test 20 is a clause and no type: C holds records that do not pass, and each step would take the type apart.
 #![tactic(auto)]
 
 ghost use Rattle.std.specs.Prelude.{◌≡◌, true, ℕ, ◌<◌, get_or};
 ghost use Rattle.refusal.specs.Number.{answer_of, gate_answer_of};
 ghost use Rattle.rules.specs.Rules.{View, gate, refusal};
-ghost use Rattle.rules.specs.Record.{intact};
 ghost use Rattle.calls.specs.Lent.{Does};
 ghost use Rattle.calls.specs.Work.{task_known, Granted, granted_in, held_in};
 
 use calls::check_present;
 use plant::{Plant, Right};
 use refusal::Refusal;
-use rules::Monitor;
+use rules::{Monitor, Tested};
 
 // Whether the skid, the tank and the right of a gate are there.
 fn check_gate(p: &Plant, s: u8, o: u8, r: u8) -> Result<(), Refusal>
@@ -28,20 +26,26 @@ fn check_gate(p: &Plant, s: u8, o: u8, r: u8) -> Result<(), Refusal>
 
 // Gate by the record: whether the skid holds the right. It is `gate_granted` over another lookup: each of the two is its two lines, and over a lookup
 // that is passed in they would want its contract too.
-pub fn gate_at(m: &Monitor, s: u8, o: u8, r: u8) -> Result<bool, Refusal>
-    requires { intact m.now.plant m.now ≡ true }
-    ensures { Does m.now (gate s o r) (gate_answer_of result) m.now }
+pub fn gate_at(tested: &Tested, s: u8, o: u8, r: u8) -> Result<bool, Refusal>
+    ensures { Does tested.now.monitor (gate s o r) (gate_answer_of result) tested.now.monitor }
 {
+    let m = &tested.monitor;
     check_gate(&m.plant, s, o, r)?;
     Ok(is_held(m, usize::from(s), o, r))
 }
 
 // The same in a list, by the rights granted: `gate_at` over another lookup, with the reason there.
-pub fn gate_granted(m: &Monitor, granted: &[u8; 64], s: u8, o: u8, r: u8) -> Result<bool, Refusal>
-    requires passes_test_20 { intact m.now.plant m.now ≡ true }
-    requires granted { Granted m.now.plant.task_rights m.now.running m.now.plant.skids granted.now }
-    ensures { Does m.now (gate s o r) (gate_answer_of result) m.now }
+pub fn gate_granted(
+    tested: &Tested,
+    granted: &[u8; 64],
+    s: u8,
+    o: u8,
+    r: u8,
+) -> Result<bool, Refusal>
+    requires { let m = tested.now.monitor in Granted m.plant.task_rights m.running m.plant.skids granted.now }
+    ensures { Does tested.now.monitor (gate s o r) (gate_answer_of result) tested.now.monitor }
 {
+    let m = &tested.monitor;
     check_gate(&m.plant, s, o, r)?;
     Ok(is_granted(m, granted, usize::from(s), o, r))
 }

@@ -2,14 +2,16 @@
 // That the counts are within the record (`Fits`) is a clause of one function, which is lent the monitor whole, as entries has it.
 #![tactic(auto)]
 
-ghost use Rattle.std.specs.Prelude.{◌≡◌, ℕ, ◌<◌};
+ghost use Rattle.std.specs.Prelude.{◌≡◌, ℕ, ◌<◌, cond, IfOk};
 ghost use Rattle.plant.specs.Plant.{lattice_of};
 ghost use Rattle.plant.specs.Checks.{Fits};
+ghost use Rattle.refusal.specs.Number.{answer_of};
 ghost use Rattle.rules.specs.Record.{intact};
 ghost use Rattle.test20.specs.Raw.{parts_in};
 
 use checks::check_plant;
-use rules::Monitor;
+use refusal::Refusal;
+use rules::{Monitor, Tested};
 use running::runs_ok;
 use stored::{levels_by_requirement, levels_ok};
 
@@ -28,4 +30,15 @@ pub fn is_intact(m: &Monitor) -> bool
     ensures { result ≡ intact m.now.plant m.now }
 {
     check_plant(&m.plant, true, true).is_ok() && parts_ok(m)
+}
+
+// The record as one that has passed test 20, for the calls behind it, or 20.
+pub fn check_intact(monitor: Monitor) -> Result<Tested, Refusal>
+    ensures number { answer_of result ≡ cond (intact monitor.plant monitor) 0 20 }
+    ensures same { IfOk result (λ tested. tested.monitor ≡ monitor) }
+{
+    if !is_intact(&monitor) {
+        return Err(Refusal::MonitorNotIntact);
+    }
+    Ok(Tested { monitor })
 }

@@ -7,8 +7,7 @@ ghost use Rattle.requests.specs.Calls.{step_of};
 ghost use Rattle.requests.specs.Requests.{call_of};
 
 use calls::{Call, Request};
-use intact::is_intact;
-use refusal::Refusal;
+use intact::check_intact;
 use requests::Answered;
 use rules::Monitor;
 use tested::advance;
@@ -17,13 +16,13 @@ use tested::advance;
 pub fn step(m: Monitor, r: Request) -> Answered
     ensures { result ≡ step_of m (call_of r) }
 {
-    if !is_intact(&m) {
-        return Answered {
-            answer: u8::from(Refusal::MonitorNotIntact),
+    match check_intact(m) {
+        Ok(tested) => advance(tested, r),
+        Err(refusal) => Answered {
+            answer: u8::from(refusal),
             monitor: m,
-        };
+        },
     }
-    advance(m, r)
 }
 
 // Set: 20, 21, 22, 23, 24, or the level is stored.

@@ -1,19 +1,19 @@
 -- The queue's loop in lists: after i requests the record is that of their calls, and the buffer begins with their answers. Assumes nothing.
 use mathlib.Core.Path.{◌≡◌, refl, sym, ap, ◌∙◌}
-use Prim.Native.Nat.{ℕ, suc, ◌+◌, ◌≤◌, ◌<◌, zero-le}
+use Prim.Native.Nat.{ℕ, suc, ◌+◌, ◌≤◌, ◌<◌}
 use native.Mathlib.Nat.{zero-add, le_antisymm}
 use native.Mathlib.Numerals.{add-one}
 use native.Mathlib.Omega.{arith}
-use mathlib.Core.Bool.{Bool, true, false, cond, not}
+use mathlib.Core.Bool.{true, not}
 use mathlib.Core.List.{List, [], ◌∷◌, ◌++◌, map, map-append}
-use lib.Dec.{eqb, ltb}
+use lib.Dec.{ltb}
 use lib.ListN.{length, get_or, take, set, length-map}
 use lib.Seq.{length-take-le, take-suc, take-length}
 use borrow.Author.Tests.{ltb-false, not-false, ne_eqb}
 use Rattle.base.specs.Overlay.{overlay}
 use Rattle.base.specs.Chain.{◌gives◌, Clear}
 use Rattle.base.proofs.Chain.{clear}
-use Rattle.base.proofs.Overlaid.{overlay_none, overlay_more, overlay_length}
+use Rattle.base.proofs.Overlaid.{overlay_none, overlay_more}
 use Rattle.rules.specs.declared.Monitor.{Monitor}
 use Rattle.rules.specs.Rules.{Call}
 use Rattle.rules.specs.Record.{intact, after, replies, final}

@@ -1,27 +1,25 @@
 // One request by itself, on a record that has passed test 20. It keeps nothing: a set, a stop and a gate make nothing that they do not read.
-// That a record passes test 20 is a clause and no type: C holds records that do not pass, and each step would take the type apart.
 #![tactic(auto)]
 
-ghost use Rattle.std.specs.Prelude.{◌≡◌, true};
+ghost use Rattle.std.specs.Prelude.{◌≡◌};
 ghost use Rattle.refusal.specs.Number.{answer_of};
 ghost use Rattle.rules.specs.Rules.{start};
-ghost use Rattle.rules.specs.Record.{intact};
 ghost use Rattle.calls.specs.Lent.{call_by, Does};
 
 use calls::{Call, Request};
 use chosen::need_of;
 use gates::gate_at;
 use refusal::{Refusal, answer, gate_answer};
-use rules::Monitor;
+use rules::Tested;
 use search::choices_for;
 use starts::{start_early, start_late};
 use steps::{set_at, stop_at};
 
 // A start by itself searches for the tanks of its own groups and levels: a table of all choices pays from the second start of a list on.
-fn start_alone(m: &mut Monitor, s: u8, t: u8) -> Result<(), Refusal>
-    requires { intact m.old.plant m.old ≡ true }
-    ensures { Does m.old (start s t) (answer_of result) m.new }
+fn start_alone(tested: &mut Tested, s: u8, t: u8) -> Result<(), Refusal>
+    ensures { Does tested.old.monitor (start s t) (answer_of result) tested.new.monitor }
 {
+    let m = &mut tested.monitor;
     start_early(m, s, t)?;
     let need = need_of(&m.plant, usize::from(t));
     let made = choices_for(m, usize::from(s), usize::from(t), need);
@@ -30,9 +28,8 @@ fn start_alone(m: &mut Monitor, s: u8, t: u8) -> Result<(), Refusal>
 
 // One request by itself. The answer is the byte that C and an answer buffer have. The arms are those of a request of a list (`turn`, crate turns), which
 // reads and changes what the list keeps: a trait for the three that differ would be longer than they are.
-pub fn call_at(m: &mut Monitor, r: Request) -> u8
-    requires { intact m.old.plant m.old ≡ true }
-    ensures { Does m.old (call_by r.kind r.a r.b r.c r.d) result m.new }
+pub fn call_at(tested: &mut Tested, r: Request) -> u8
+    ensures { Does tested.old.monitor (call_by r.kind r.a r.b r.c r.d) result tested.new.monitor }
 {
     match Call::try_from(r) {
         Ok(
@@ -42,10 +39,10 @@ pub fn call_at(m: &mut Monitor, r: Request) -> u8
                 requirement,
                 level,
             },
-        ) => answer(set_at(m, skid, task, requirement, level)),
-        Ok(Call::Start { skid, task }) => answer(start_alone(m, skid, task)),
-        Ok(Call::Stop { skid }) => answer(stop_at(m, skid)),
-        Ok(Call::Gate { skid, tank, right }) => gate_answer(gate_at(m, skid, tank, right)),
+        ) => answer(set_at(tested, skid, task, requirement, level)),
+        Ok(Call::Start { skid, task }) => answer(start_alone(tested, skid, task)),
+        Ok(Call::Stop { skid }) => answer(stop_at(tested, skid)),
+        Ok(Call::Gate { skid, tank, right }) => gate_answer(gate_at(tested, skid, tank, right)),
         Err(refusal) => u8::from(refusal),
     }
 }

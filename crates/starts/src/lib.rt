@@ -1,12 +1,10 @@
 // A start: its conditions in their order, and what it stores.
-// That a record passes test 20 is a clause and no type: C holds records that do not pass, and each step would take the type apart.
 #![tactic(auto)]
 
-ghost use Rattle.std.specs.Prelude.{◌≡◌, true, ◌≤◌};
+ghost use Rattle.std.specs.Prelude.{◌≡◌, ◌≤◌};
 ghost use Rattle.base.specs.Chain.{first};
 ghost use Rattle.refusal.specs.Number.{answer_of};
 ghost use Rattle.rules.specs.Rules.{start};
-ghost use Rattle.rules.specs.Record.{intact};
 ghost use Rattle.choice.specs.Table.{ChoicesIn, Linked};
 ghost use Rattle.calls.specs.Work.{NeedOf, early_tests};
 ghost use Rattle.calls.specs.Lent.{Does, Tables};
@@ -15,7 +13,7 @@ ghost use Rattle.calls.specs.Start.{LateReads, LateDone};
 use choices::make_choices;
 use chosen::{choose_row, need_once};
 use refusal::Refusal;
-use rules::Monitor;
+use rules::{Monitor, Tested};
 use sets::has;
 use steps::put_row;
 
@@ -61,17 +59,17 @@ pub fn start_late(
 // Start in a list, which keeps the table of choices and the groups of its tasks. The two are lent and not the whole `Kept`: a start asks nothing of the
 // rights granted, and of a `Kept` it would ask that those are right as well.
 pub fn start_at(
-    m: &mut Monitor,
+    tested: &mut Tested,
     made: &mut Option<[Option<u8>; 128]>,
     needs: &mut [Option<u16>; 16],
     s: u8,
     t: u8,
 ) -> Result<(), Refusal>
-    requires passes_test_20 { intact m.old.plant m.old ≡ true }
-    requires tables { Tables m.old.plant made.old needs.old }
-    ensures does { Does m.old (start s t) (answer_of result) m.new }
-    ensures tables { Tables m.old.plant made.new needs.new }
+    requires { Tables tested.old.monitor.plant made.old needs.old }
+    ensures does { Does tested.old.monitor (start s t) (answer_of result) tested.new.monitor }
+    ensures tables { Tables tested.old.monitor.plant made.new needs.new }
 {
+    let m = &mut tested.monitor;
     start_early(m, s, t)?;
     let need = need_once(&m.plant, needs, usize::from(t));
     let choices = made.get_or_insert_with(

@@ -1,25 +1,24 @@
 // The work of set and stop on a record that has passed test 20, and a skid's row of choices or of rights granted.
 // The bound of an index is a clause and no type: a type would be made of a number at each call and taken apart at each array.
-// That a record passes test 20 is a clause and no type: C holds records that do not pass, and each step would take the type apart.
 #![tactic(auto)]
 
-ghost use Rattle.std.specs.Prelude.{◌≡◌, true, ◌*◌, ◌<◌};
+ghost use Rattle.std.specs.Prelude.{◌≡◌, ◌*◌, ◌<◌};
 ghost use Rattle.refusal.specs.Number.{answer_of};
 ghost use Rattle.rules.specs.Rules.{set, stop};
-ghost use Rattle.rules.specs.Record.{intact, fill_from};
+ghost use Rattle.rules.specs.Record.{fill_from};
 ghost use Rattle.calls.specs.Lent.{Does};
 ghost use Rattle.calls.specs.Work.{rights_in, get_row};
 
 use calls::check_present;
 use plant::Plant;
 use refusal::Refusal;
-use rules::Monitor;
+use rules::Tested;
 
 // Set: 21 to 24, or the level is stored.
-pub fn set_at(m: &mut Monitor, s: u8, t: u8, d: u8, v: u8) -> Result<(), Refusal>
-    requires { intact m.old.plant m.old ≡ true }
-    ensures { Does m.old (set s t d v) (answer_of result) m.new }
+pub fn set_at(tested: &mut Tested, s: u8, t: u8, d: u8, v: u8) -> Result<(), Refusal>
+    ensures { Does tested.old.monitor (set s t d v) (answer_of result) tested.new.monitor }
 {
+    let m = &mut tested.monitor;
     check_present([
         (m.plant.skids <= s).then_some(Refusal::NoSuchSkid),
         (m.plant.tasks <= t).then_some(Refusal::NoSuchTask),
@@ -49,10 +48,10 @@ pub fn grant_row(granted: &mut [u8; 64], p: &Plant, s: usize, t: usize)
 }
 
 // Stop: 21, or the skid runs nothing and has no tank.
-pub fn stop_at(m: &mut Monitor, s: u8) -> Result<(), Refusal>
-    requires { intact m.old.plant m.old ≡ true }
-    ensures { Does m.old (stop s) (answer_of result) m.new }
+pub fn stop_at(tested: &mut Tested, s: u8) -> Result<(), Refusal>
+    ensures { Does tested.old.monitor (stop s) (answer_of result) tested.new.monitor }
 {
+    let m = &mut tested.monitor;
     if m.plant.skids <= s {
         return Err(Refusal::NoSuchSkid);
     }

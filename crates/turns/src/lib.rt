@@ -6,7 +6,7 @@ ghost use Rattle.std.proofs.Props.{props};
 ghost use Rattle.plant.specs.Checks.{plant_refusal};
 ghost use Rattle.refusal.specs.Number.{answer_of};
 ghost use Rattle.rules.specs.Rules.{start, stop};
-ghost use Rattle.rules.specs.Record.{Sized, intact, fresh};
+ghost use Rattle.rules.specs.Record.{fresh};
 ghost use Rattle.calls.specs.Lent.{call_by, Does, Keeps};
 
 use calls::{Call, Kept, Request};
@@ -14,42 +14,41 @@ use fresh::fresh_monitor;
 use gates::gate_granted;
 use plant::Plant;
 use refusal::{Refusal, answer, gate_answer};
-use rules::Monitor;
+use rules::Tested;
 use starts::start_at;
 use steps::{grant_row, put_row, set_at, stop_at};
 
-// A batch under way: its record, and what it keeps beside it. The record is the fresh one of an accepted plant at first, and no call makes it fail
-// test 20. `sized` says what the record's type does, since the check reads no length off an array in a field of a field.
+// A batch under way: its record, and what it keeps beside it. The record is the fresh one of an accepted plant at first.
 #[derive(Drop)]
 pub struct Batch {
-    pub monitor: Monitor,
+    pub tested: Tested,
     pub kept: Kept,
-    pub ghost sized: { Sized monitor },
-    pub ghost passes_test_20: { intact monitor.plant monitor ≡ true },
-    pub ghost keeps: { Keeps monitor kept } by { Prim.hlevel props },
+    pub ghost keeps: { Keeps tested.monitor kept } by { Prim.hlevel props },
 }
 
 impl Batch {
     // Before the first request.
     pub fn new(plant: Plant) -> Self
         requires { plant_refusal true true plant ≡ 0 }
-        ensures { result.monitor ≡ fresh plant }
+        ensures { result.tested.monitor ≡ fresh plant }
     {
         Batch {
-            monitor: fresh_monitor(plant),
+            tested: Tested {
+                monitor: fresh_monitor(plant),
+            },
             kept: Kept::new(),
         }
     }
 
     // A start, by which the skid has the rights of its task.
     fn start(&mut self, s: u8, t: u8) -> Result<(), Refusal>
-        ensures { Does self.old.monitor (start s t) (answer_of result) self.new.monitor }
+        ensures { Does self.old.tested.monitor (start s t) (answer_of result) self.new.tested.monitor }
     {
         let kept = &mut self.kept;
-        start_at(&mut self.monitor, &mut kept.made, &mut kept.needs, s, t)?;
+        start_at(&mut self.tested, &mut kept.made, &mut kept.needs, s, t)?;
         grant_row(
             &mut kept.granted,
-            &self.monitor.plant,
+            &self.tested.monitor.plant,
             usize::from(s),
             usize::from(t),
         );
@@ -58,9 +57,9 @@ impl Batch {
 
     // A stop, by which the skid has no rights.
     fn stop(&mut self, s: u8) -> Result<(), Refusal>
-        ensures { Does self.old.monitor (stop s) (answer_of result) self.new.monitor }
+        ensures { Does self.old.tested.monitor (stop s) (answer_of result) self.new.tested.monitor }
     {
-        stop_at(&mut self.monitor, s)?;
+        stop_at(&mut self.tested, s)?;
         put_row(&mut self.kept.granted, usize::from(s), &[0; 8]);
         Ok(())
     }
@@ -68,7 +67,7 @@ impl Batch {
     // One request, and the byte that is its answer. The arms are those of a request by itself (`call_at`, crate single), over what a batch keeps: a
     // trait for the three that differ would be longer than they are.
     pub fn turn(&mut self, r: Request) -> u8
-        ensures { Does self.old.monitor (call_by r.kind r.a r.b r.c r.d) result self.new.monitor }
+        ensures { Does self.old.tested.monitor (call_by r.kind r.a r.b r.c r.d) result self.new.tested.monitor }
     {
         match Call::try_from(r) {
             Ok(
@@ -78,11 +77,11 @@ impl Batch {
                     requirement,
                     level,
                 },
-            ) => answer(set_at(&mut self.monitor, skid, task, requirement, level)),
+            ) => answer(set_at(&mut self.tested, skid, task, requirement, level)),
             Ok(Call::Start { skid, task }) => answer(self.start(skid, task)),
             Ok(Call::Stop { skid }) => answer(self.stop(skid)),
             Ok(Call::Gate { skid, tank, right }) => gate_answer(gate_granted(
-                &self.monitor,
+                &self.tested,
                 &self.kept.granted,
                 skid,
                 tank,

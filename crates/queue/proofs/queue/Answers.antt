@@ -5,4 +5,4 @@ use Rattle.queue.proofs.Turns.{refused}
 use Rattle.queue.proofs.queue.Goals as goal
 
 pub returns-in-Err : goal.returns-in-Err
-returns-in-Err c = refused c.args.m c.args.rs.now c.args.out.now (c.from.ensures ∙ c.in-Err.ensures) (λ z. not_0 _ (sym c.from.ensures ∙ z))
+returns-in-Err c = refused c.args.m c.args.rs.now c.args.out.now (c.from.ensures ∙ c.in-Err.ensures.number) (λ z. not_0 _ (sym c.from.ensures ∙ z))

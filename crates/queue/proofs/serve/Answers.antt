@@ -3,35 +3,36 @@ use Rattle.std.proofs.Common.{List, arith, ap, ◌∙◌}
 use Rattle.rules.specs.Rules.{Call}
 use Rattle.rules.specs.Record.{replies, final}
 use Rattle.base.specs.Overlay.{overlay}
+use Rattle.requests.proofs.Step.{passed_on}
 use Rattle.queue.proofs.Turns.{first_state, first_buffer, next_state, next_buffer, all_made}
 use Rattle.queue.proofs.serve.Goals as goal
 
 pub loop-i-init : goal.loop-i-init
-loop-i-init c = record {
-  record_is = first_state c.args.m c.args.rs.now c.args.out.now;
-  buffer_is = first_buffer c.args.m c.args.rs.now c.args.out.now;
-  passes = c.requires.passes;
-}
+loop-i-init c =
+    let m = c.args.tested.monitor in
+    record { record_is = first_state m c.args.rs.now c.args.out.now; buffer_is = first_buffer m c.args.rs.now c.args.out.now }
 
 pub loop-i-preserved : goal.loop-i-preserved
 loop-i-preserved c =
-    let i = c.loop-i.invariant in
+    let m = c.args.tested.monitor in
+    let rs = c.args.rs.now in
+    let out = c.args.out.now in
+    let v = c.loop-i.invariant in
+    let l = c.loop-i-test.true in
+    let e = passed_on c.loop-i.current c.call_at.ensures in
     record {
-      record_is = next_state c.args.m c.args.rs.now c.args.out.now c.loop-i.i c.loop-i-test.true i.record_is c.advance-a.ensures.0;
-      buffer_is = next_buffer c.args.m c.args.rs.now c.args.out.now c.loop-i.i c.loop-i-test.true (omega (arith, c.loop-i-test.true, c.requires.room)) i.record_is i.buffer_is c.advance-a.ensures.0;
-      passes = c.advance-a.ensures.1;
+      record_is = next_state m rs out c.loop-i.i l v.record_is e;
+      buffer_is = next_buffer m rs out c.loop-i.i l (omega (arith, l, c.requires)) v.record_is v.buffer_is e;
     }
-
-pub advance-a-requires : goal.advance-a-requires
-advance-a-requires c = c.loop-i.invariant.passes
 
 pub returns-clause-record_after : goal.returns-clause-record_after
 returns-clause-record_after c =
-    c.loop-i.invariant.record_is
-    ∙ ap (final c.args.m) (all_made c.args.m c.args.rs.now c.args.out.now c.loop-i.i c.loop-i.auto.i-end c.loop-i-test.false)
+    let m = c.args.tested.monitor in
+    c.loop-i.invariant.record_is ∙ ap (final m) (all_made m c.args.rs.now c.args.out.now c.loop-i.i c.loop-i.auto.i-end c.loop-i-test.false)
 
 pub returns-clause-answers : goal.returns-clause-answers
 returns-clause-answers c =
+    let m = c.args.tested.monitor in
     c.loop-i.invariant.buffer_is
-    ∙ ap (λ (cs : List Call). overlay c.args.out.now 0 (replies c.args.m cs))
-    (all_made c.args.m c.args.rs.now c.args.out.now c.loop-i.i c.loop-i.auto.i-end c.loop-i-test.false)
+    ∙ ap (λ (cs : List Call). overlay c.args.out.now 0 (replies m cs))
+    (all_made m c.args.rs.now c.args.out.now c.loop-i.i c.loop-i.auto.i-end c.loop-i-test.false)

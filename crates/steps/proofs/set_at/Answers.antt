@@ -5,37 +5,45 @@ use Rattle.refusal.specs.Number.{number_of, answer_of}
 use Rattle.refusal.proofs.NotZero.{number_not_0}
 use Rattle.calls.proofs.Ready.{plant_valid}
 use Rattle.calls.proofs.There.{three_items}
-use Rattle.calls.proofs.Steps.{set_does, set_missing, set_there}
+use Rattle.calls.proofs.Steps.{set_does, set_missing, set_there, still_passes}
 use Rattle.steps.proofs.set_at.Goals as goal
 
 pub returns-in_err-check_present : goal.returns-in_err-check_present
 returns-in_err-check_present c =
     let e : answer_of c.from_residual.result ≡ number_of c.in_err-check_present.field-0.0 = search rules in
     let f = c.in_err-check_present.ensures ∙ three_items _ _ _ _ _ _ c.then_some.ensures c.then_some-2.ensures c.then_some-3.ensures in
-    rw e (set_missing _ c.requires _ _ _ c.args.v f (number_not_0 c.in_err-check_present.field-0.0))
+    rw e (set_missing _ c.args.tested.now.passes_test_20 _ _ _ c.args.v f (number_not_0 c.in_err-check_present.field-0.0))
 
 pub levels_of-requires : goal.levels_of-requires
 levels_of-requires c =
     let e = c.in_ok-check_present.ensures ∙ three_items _ _ _ _ _ _ c.then_some.ensures c.then_some-2.ensures c.then_some-3.ensures in
-    let k = set_there _ c.requires _ _ _ c.args.v e refl in
-    let w = plant_valid _ c.requires in
+    let k = set_there _ c.args.tested.now.passes_test_20 _ _ _ c.args.v e refl in
+    let w = plant_valid _ c.args.tested.now.passes_test_20 in
     rw c.from.ensures (omega (arith, w.counts.requirements_fit), omega (arith, w.lattice_in c.args.d k.1.1, w.counts.lattices_fit))
 
 pub returns-then-levels_of-v : goal.returns-then-levels_of-v
 returns-then-levels_of-v c =
     let e = c.in_ok-check_present.ensures ∙ three_items _ _ _ _ _ _ c.then_some.ensures c.then_some-2.ensures c.then_some-3.ensures in
     let h = rw (c.levels_of.ensures, c.from.ensures) at c.if-levels_of-v.true in
-    set_does _ c.requires _ _ _ _ (rw (← e) (simp (le-leb _ _ h))) refl
+    set_does _ c.args.tested.now.passes_test_20 _ _ _ _ (rw (← e) (simp (le-leb _ _ h))) refl
 
 pub bounds-m-from : goal.bounds-m-from
 bounds-m-from c =
     let e = c.in_ok-check_present.ensures ∙ three_items _ _ _ _ _ _ c.then_some.ensures c.then_some-2.ensures c.then_some-3.ensures in
-    let k = set_there _ c.requires _ _ _ c.args.v e refl in
-    let w = (plant_valid _ c.requires).counts in
+    let k = set_there _ c.args.tested.now.passes_test_20 _ _ _ c.args.v e refl in
+    let w = (plant_valid _ c.args.tested.now.passes_test_20).counts in
     omega (arith, k.0, k.1.0, k.1.1, w.skids_fit, w.tasks_fit, w.requirements_fit)
 
 pub returns : goal.returns
 returns c =
     let e = c.in_ok-check_present.ensures ∙ three_items _ _ _ _ _ _ c.then_some.ensures c.then_some-2.ensures c.then_some-3.ensures in
     let h = rw (c.levels_of.ensures, c.from.ensures) at c.if-levels_of-v.false in
-    set_does _ c.requires _ _ _ _ (rw (← e) (simp (lt-leb _ _ h))) (rw (c.from-2.ensures, c.from-3.ensures, c.from-4.ensures))
+    set_does _ c.args.tested.now.passes_test_20 _ _ _ _ (rw (← e) (simp (lt-leb _ _ h))) (rw (c.from-2.ensures, c.from-3.ensures, c.from-4.ensures))
+
+pub invariant_of-tested-2 : goal.invariant_of-tested-2
+invariant_of-tested-2 c =
+    let i = c.args.tested.now.passes_test_20 in
+    let e = c.in_ok-check_present.ensures ∙ three_items _ _ _ _ _ _ c.then_some.ensures c.then_some-2.ensures c.then_some-3.ensures in
+    let h = rw (c.levels_of.ensures, c.from.ensures) at c.if-levels_of-v.false in
+    still_passes c.args.tested.now
+    (set_does _ i c.args.s c.args.t c.args.d c.args.v {r = 0} (rw (← e) (simp (lt-leb _ _ h))) (rw (c.from-2.ensures, c.from-3.ensures, c.from-4.ensures)))

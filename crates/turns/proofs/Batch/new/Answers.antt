@@ -12,8 +12,9 @@ invariant_of-result c =
     let p = c.args.plant in
     let sound = (sound_law p).0 c.requires in
     let agree = fresh_agree p sound in
-    rw c.fresh_monitor.ensures (record {
-      sized = agree.sized;
-      passes_test_20 = intact_true p sound (fresh p) [] agree;
-      keeps = c.new.ensures p (valid p sound).counts.skids_fit;
-    })
+    rw c.fresh_monitor.ensures (record { sized = agree.sized; passes_test_20 = intact_true p sound (fresh p) [] agree })
+
+pub invariant_of-result-2 : goal.invariant_of-result-2
+invariant_of-result-2 c =
+    let p = c.args.plant in
+    rw c.fresh_monitor.ensures (record { keeps = c.new.ensures p (valid p ((sound_law p).0 c.requires)).counts.skids_fit })

@@ -2,7 +2,7 @@
 use Rattle.std.proofs.Common.{refl, arith}
 use Rattle.refusal.proofs.NotZero.{not_0}
 use Rattle.calls.proofs.Ready.{plant_valid}
-use Rattle.calls.proofs.Steps.{plant_kept, still_passes}
+use Rattle.calls.proofs.Steps.{plant_kept}
 use Rattle.calls.proofs.Grants.{start_items, start_granted, start_refused}
 use Rattle.turns.proofs.Batch.start.Goals as goal
 
@@ -10,10 +10,7 @@ pub invariant_of-self : goal.invariant_of-self
 invariant_of-self c =
     let batch = c.args.self.now in
     let d = c.in_err-start_at.ensures.does in
-    let p = still_passes batch.sized batch.passes_test_20 d in
     record {
-      sized = p.0;
-      passes_test_20 = p.1;
       keeps = rw (← plant_kept d) (record {
         tables = c.start_at.ensures.tables;
         grants = start_refused _ batch.keeps.grants c.args.s c.args.t d (not_0 c.in_err-start_at.field-0.0);
@@ -23,20 +20,20 @@ invariant_of-self c =
 pub grant_row-requires : goal.grant_row-requires
 grant_row-requires c =
     let batch = c.args.self.now in
-    let f = (plant_valid _ batch.passes_test_20).counts in
+    let f = (plant_valid _ batch.tested.passes_test_20).counts in
     let l = start_items _ batch.keeps.grants c.args.s c.args.t f.skids_fit f.tasks_fit c.in_ok-start_at.ensures.does refl in
     (omega arith, omega arith)
 
 pub invariant_of-self-2 : goal.invariant_of-self-2
-invariant_of-self-2 c =
+invariant_of-self-2 c = let tested = c.start_at.new.tested in (tested.sized, (tested.passes_test_20, tt))
+
+pub invariant_of-self-3 : goal.invariant_of-self-3
+invariant_of-self-3 c =
     let batch = c.args.self.now in
-    let f = (plant_valid _ batch.passes_test_20).counts in
+    let f = (plant_valid _ batch.tested.passes_test_20).counts in
     let d = c.in_ok-start_at.ensures.does in
     let l = start_items _ batch.keeps.grants c.args.s c.args.t f.skids_fit f.tasks_fit d refl in
-    let p = still_passes batch.sized batch.passes_test_20 d in
     record {
-      sized = p.0;
-      passes_test_20 = p.1;
       keeps = rw (c.grant_row.ensures, c.from.ensures, c.from-2.ensures, ← plant_kept d) (record {
         tables = c.start_at.ensures.tables;
         grants = start_granted _ batch.keeps.grants c.args.s c.args.t l d refl;

@@ -2,7 +2,7 @@
 use Rattle.std.proofs.Common.{refl}
 use Rattle.refusal.proofs.NotZero.{not_0}
 use Rattle.calls.proofs.Ready.{plant_valid}
-use Rattle.calls.proofs.Steps.{plant_kept, still_passes}
+use Rattle.calls.proofs.Steps.{plant_kept}
 use Rattle.calls.proofs.Grants.{stop_item, stop_granted, stop_refused}
 use Rattle.turns.proofs.Batch.stop.Goals as goal
 
@@ -10,10 +10,7 @@ pub invariant_of-self : goal.invariant_of-self
 invariant_of-self c =
     let batch = c.args.self.now in
     let d = c.in_err-stop_at.ensures in
-    let p = still_passes batch.sized batch.passes_test_20 d in
     record {
-      sized = p.0;
-      passes_test_20 = p.1;
       keeps = rw (← plant_kept d) (record {
         tables = batch.keeps.tables;
         grants = stop_refused _ batch.keeps.grants c.args.s d (not_0 c.in_err-stop_at.field-0.0);
@@ -23,17 +20,14 @@ invariant_of-self c =
 pub put_row-requires : goal.put_row-requires
 put_row-requires c =
     let batch = c.args.self.now in
-    rw c.from.ensures (stop_item _ batch.keeps.grants c.args.s (plant_valid _ batch.passes_test_20).counts.skids_fit c.in_ok-stop_at.ensures refl)
+    rw c.from.ensures (stop_item _ batch.keeps.grants c.args.s (plant_valid _ batch.tested.passes_test_20).counts.skids_fit c.in_ok-stop_at.ensures refl)
 
 pub invariant_of-self-2 : goal.invariant_of-self-2
 invariant_of-self-2 c =
     let batch = c.args.self.now in
     let d = c.in_ok-stop_at.ensures in
-    let l = stop_item _ batch.keeps.grants c.args.s (plant_valid _ batch.passes_test_20).counts.skids_fit d refl in
-    let p = still_passes batch.sized batch.passes_test_20 d in
+    let l = stop_item _ batch.keeps.grants c.args.s (plant_valid _ batch.tested.passes_test_20).counts.skids_fit d refl in
     record {
-      sized = p.0;
-      passes_test_20 = p.1;
       keeps = rw (c.put_row.ensures, c.from.ensures, ← plant_kept d) (record {
         tables = batch.keeps.tables;
         grants = stop_granted _ batch.keeps.grants c.args.s l d refl;

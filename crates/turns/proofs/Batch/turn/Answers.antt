@@ -1,5 +1,5 @@
 -- Each call's work is what the rules say; a request of no kind answers 32.
-use Rattle.calls.proofs.Steps.{plant_kept, still_passes, unknown_does}
+use Rattle.calls.proofs.Steps.{plant_kept, unknown_does}
 use Rattle.calls.proofs.Grants.{set_granted}
 use Rattle.turns.proofs.Batch.turn.Goals as goal
 
@@ -7,10 +7,7 @@ pub invariant_of-self : goal.invariant_of-self
 invariant_of-self c =
     let batch = c.args.self.now in
     let d = c.set_at.ensures in
-    let p = still_passes batch.sized batch.passes_test_20 d in
     record {
-      sized = p.0;
-      passes_test_20 = p.1;
       keeps = rw (← plant_kept d) (record { tables = batch.keeps.tables; grants = set_granted _ batch.keeps.grants _ _ _ _ d });
     }
 
