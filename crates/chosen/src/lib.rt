@@ -22,7 +22,7 @@ pub fn need_of(p: &Plant, t: usize) -> u16
 {
     let mut need: u16 = 0;
     for g in 0..usize::from(p.groups) {
-        if p.task_rights[t * 8 + g] != 0 {
+        if p.rights_of(t, g) != 0 {
             need = with_one(need, g);
         }
     }
@@ -50,7 +50,7 @@ pub fn level_for(m: &Monitor, s: usize, t: usize, g: usize) -> Option<usize>
     ensures { result ≡ if_set (wish_in m.now.plant.group_requirement m.now.levels s t g) }
 {
     let d = usize::from(m.plant.group_requirement[g]);
-    let v = m.levels[(s * 16 + t) * 8 + d];
+    let v = m.level(s, t, d);
     if v == 255 { None } else { Some(usize::from(v)) }
 }
 

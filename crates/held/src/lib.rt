@@ -1,7 +1,6 @@
 // The writer of the list of rights held: how many there are, and then each as skid, tank, right, rising in that order.
-// `Known` is a clause and no type: `write_held` is lent a record, and a struct with that fact would be made there and taken apart again at `is_held` and at
-// the counts. That s and o are below the record's counts is a clause as well: s goes through three functions as it is, each is lent the record beside it,
-// and a type of such a number would hold the record a second time.
+// That s and o are below the record's counts is a clause and no type: s goes through three functions as it is, each has the record beside it, and a
+// type of such a number would hold the record a second time.
 #![tactic(auto)]
 
 ghost use Rattle.std.specs.Prelude.{◌≡◌, [], ◌∷◌, ◌/◌, ◌<◌, ◌≤◌, length};
@@ -21,48 +20,53 @@ fn put_right(list: &mut Writer, skid: u8, tank: u8, right: u8)
     list.word(&[skid, tank, right]);
 }
 
-// Right r on tank o, if skid s holds it.
-fn write_right(m: &Monitor, list: &mut Writer, s: u8, o: u8, r: u8)
-    requires known { Known m.now }
-    requires in_range { (s < m.now.plant.skids) × (o < m.now.plant.tanks) }
-    requires room { Room (right_bytes_in m.now s o r) list.old }
-    ensures { Writes (right_bytes_in m.now s o r) list.old list.new }
-{
-    if is_held(m, usize::from(s), o, r) {
-        put_right(list, s, o, r);
-    }
+// A record whose rights are listed. The writer of the list is no field: a method that writes would have to promise that the record stays as it was.
+#[derive(Clone, Copy)]
+struct Held<'a> {
+    monitor: &'a Monitor,
+    ghost known: { Known monitor.now },
 }
 
-// The rights on tank o in their order, so that the list rises.
-fn write_tank(m: &Monitor, list: &mut Writer, s: u8, o: u8)
-    requires known { Known m.now }
-    requires in_range { (s < m.now.plant.skids) × (o < m.now.plant.tanks) }
-    requires room { Room (tank_bytes_in m.now s o) list.old }
-    ensures { Writes (tank_bytes_in m.now s o) list.old list.new }
-{
-    for r in Right::all() {
-        write_right(m, list, s, o, r);
+impl<'a> Held<'a> {
+    // Right r on tank o, if skid s holds it.
+    fn write_right(&self, list: &mut Writer, s: u8, o: u8, r: u8)
+        requires in_range { (s < self.now.monitor.now.plant.skids) × (o < self.now.monitor.now.plant.tanks) }
+        requires room { Room (right_bytes_in self.now.monitor.now s o r) list.old }
+        ensures { Writes (right_bytes_in self.now.monitor.now s o r) list.old list.new }
+    {
+        if is_held(self.monitor, usize::from(s), o, r) {
+            put_right(list, s, o, r);
+        }
     }
-}
 
-fn write_skid(m: &Monitor, list: &mut Writer, s: u8)
-    requires known { Known m.now }
-    requires in_range { s < m.now.plant.skids }
-    requires room { Room (skid_bytes_in m.now s) list.old }
-    ensures { Writes (skid_bytes_in m.now s) list.old list.new }
-{
-    for o in 0..m.plant.tanks {
-        write_tank(m, list, s, o);
+    // The rights on tank o in their order, so that the list rises.
+    fn write_tank(&self, list: &mut Writer, s: u8, o: u8)
+        requires in_range { (s < self.now.monitor.now.plant.skids) × (o < self.now.monitor.now.plant.tanks) }
+        requires room { Room (tank_bytes_in self.now.monitor.now s o) list.old }
+        ensures { Writes (tank_bytes_in self.now.monitor.now s o) list.old list.new }
+    {
+        for r in Right::all() {
+            self.write_right(list, s, o, r);
+        }
     }
-}
 
-fn write_skids(m: &Monitor, list: &mut Writer)
-    requires known { Known m.now }
-    requires room { Room (skids_bytes_in m.now) list.old }
-    ensures { Writes (skids_bytes_in m.now) list.old list.new }
-{
-    for s in 0..m.plant.skids {
-        write_skid(m, list, s);
+    fn write_skid(&self, list: &mut Writer, s: u8)
+        requires in_range { s < self.now.monitor.now.plant.skids }
+        requires room { Room (skid_bytes_in self.now.monitor.now s) list.old }
+        ensures { Writes (skid_bytes_in self.now.monitor.now s) list.old list.new }
+    {
+        for o in 0..self.monitor.plant.tanks {
+            self.write_tank(list, s, o);
+        }
+    }
+
+    fn write_skids(&self, list: &mut Writer)
+        requires { Room (skids_bytes_in self.now.monitor.now) list.old }
+        ensures { Writes (skids_bytes_in self.now.monitor.now) list.old list.new }
+    {
+        for s in 0..self.monitor.plant.skids {
+            self.write_skid(list, s);
+        }
     }
 }
 
@@ -74,7 +78,8 @@ pub fn write_held(m: &Monitor, out: &mut [u8])
 {
     let (count, rights) = out.split_at_mut(1);
     let mut list = Writer::new(rights);
-    write_skids(m, &mut list);
+    let held = Held { monitor: m };
+    held.write_skids(&mut list);
     let bytes = list.end();
     count[0] = (bytes / 3) as u8;
 }

@@ -39,7 +39,7 @@ fn requirement_named(p: &Plant, t: usize, g: usize) -> bool
     ensures { result ≡ requirement_named p.now t g }
 {
     let requirement = usize::from(p.group_requirement[g]);
-    p.task_rights[t * 8 + g] == 0 || has(u16::from(p.task_requirements[t]), requirement)
+    p.rights_of(t, g) == 0 || has(u16::from(p.task_requirements[t]), requirement)
 }
 
 fn task_named(p: &Plant, t: usize) -> bool

@@ -35,26 +35,26 @@ fn places_of(p: &Plant) -> [u16; 8]
 }
 
 // What lies at or above a level of the set `these` in lattice l.
-fn above_in(sets: &[u16; 128], l: usize, these: u16) -> u16
+fn above_in(p: &Plant, l: usize, these: u16) -> u16
     requires { l < 8 }
-    ensures { (v : ℕ) → bit result v ≡ any_below (reaches_in sets.now l these v) 16 }
+    ensures { (v : ℕ) → bit result v ≡ any_below (reaches_in p.now.lattice_sets l these v) 16 }
 {
     let mut all: u16 = 0;
     for y in Members::of(these) {
-        all |= sets[l * 16 + y];
+        all |= p.above(l, y);
     }
     all
 }
 
 // The levels for which a tank at level x is nearest, in a group with tanks at `places`: those at or above x, and at or above no
 // other level of the group that is above x.
-pub fn nearest_for(sets: &[u16; 128], l: usize, places: u16, x: usize) -> u16
+pub fn nearest_for(p: &Plant, l: usize, places: u16, x: usize) -> u16
     requires { (l < 8) × (x < 16) }
-    ensures { (v : ℕ) → bit result v ≡ under_in_lattice sets.now l x v && not (any_below (nearer_in sets.now l places x v) 16) }
+    ensures { (v : ℕ) → bit result v ≡ under_in_lattice p.now.lattice_sets l x v && not (any_below (nearer_in p.now.lattice_sets l places x v) 16) }
 {
-    let own = sets[l * 16 + x];
+    let own = p.above(l, x);
     let nearer = without_one(places & own, x);
-    let taken = above_in(sets, l, nearer);
+    let taken = above_in(p, l, nearer);
     without_set(own, taken)
 }
 
@@ -79,6 +79,6 @@ impl<'a> Places<'a> {
         let g = usize::from(p.tank_group[o]);
         let l = usize::from(p.requirement_lattice[usize::from(p.group_requirement[g])]);
         let x = usize::from(p.tank_level[o]);
-        nearest_for(&p.lattice_sets, l, self.at_group[g], x)
+        nearest_for(p, l, self.at_group[g], x)
     }
 }

@@ -1,8 +1,8 @@
 // The monitor's record. The rules of its calls, the history of a list of calls and demand 3 stand in specs/ and proofs/.
 #![tactic(auto)]
 
-ghost use Rattle.std.specs.Prelude.{◌≡◌, true};
-ghost use Rattle.rules.specs.Record.{Sized, intact};
+ghost use Rattle.std.specs.Prelude.{◌≡◌, true, ◌<◌, get_or, slice_set};
+ghost use Rattle.rules.specs.Record.{level_at, chosen_at, with_levels, Sized, intact};
 
 use plant::Plant;
 
@@ -15,6 +15,39 @@ pub struct Monitor {
     pub levels: [u8; 1024],
     pub running: [u8; 8],
     pub chosen: [u8; 64],
+}
+
+// The place of the level of skid s in task t for requirement d.
+fn level_at(s: usize, t: usize, d: usize) -> usize
+    requires { (s < 8) × (t < 16) × (d < 8) }
+    ensures { result ≡ level_at s t d }
+{
+    (s * 16 + t) * 8 + d
+}
+
+impl Monitor {
+    // The level of skid s in task t for requirement d.
+    pub fn level(&self, s: usize, t: usize, d: usize) -> u8
+        requires { (s < 8) × (t < 16) × (d < 8) }
+        ensures { result ≡ get_or self.now.levels (level_at s t d) 0 }
+    {
+        self.levels[level_at(s, t, d)]
+    }
+
+    pub fn put_level(&mut self, s: usize, t: usize, d: usize, v: u8)
+        requires { (s < 8) × (t < 16) × (d < 8) }
+        ensures { self.new ≡ with_levels self.old (slice_set self.old.levels (level_at s t d) v) }
+    {
+        self.levels[level_at(s, t, d)] = v;
+    }
+
+    // The tank chosen for skid s from group g.
+    pub fn tank(&self, s: usize, g: usize) -> u8
+        requires { (s < 8) × (g < 8) }
+        ensures { result ≡ get_or self.now.chosen (chosen_at s g) 0 }
+    {
+        self.chosen[s * 8 + g]
+    }
 }
 
 // A record that has passed test 20. `sized` says what the record's type does, since the check reads no length off an array in a field of a field.

@@ -35,7 +35,7 @@ fn tanks_ok(m: &Monitor, t: usize, s: usize) -> bool
     ensures { result ≡ all_below (chosen_in m.now.plant.task_rights m.now.plant.tank_group m.now.chosen m.now.plant.tanks t s) m.now.plant.groups }
 {
     let p = &m.plant;
-    (0..usize::from(p.groups)).all(|g| tank_ok(p, p.task_rights[t * 8 + g], m.chosen[s * 8 + g], g))
+    (0..usize::from(p.groups)).all(|g| tank_ok(p, p.rights_of(t, g), m.tank(s, g), g))
 }
 
 // What skid s runs, with its chosen tanks. 255 is no task and names no rights, so it is asked first.

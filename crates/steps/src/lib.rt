@@ -27,7 +27,7 @@ pub fn set_at(tested: &mut Tested, s: u8, t: u8, d: u8, v: u8) -> Result<(), Ref
     if m.plant.levels_of(usize::from(d)) <= v {
         return Err(Refusal::NoSuchLevel);
     }
-    m.levels[(usize::from(s) * 16 + usize::from(t)) * 8 + usize::from(d)] = v;
+    m.put_level(usize::from(s), usize::from(t), usize::from(d), v);
     Ok(())
 }
 

@@ -5,7 +5,7 @@
 ghost use Rattle.std.specs.Prelude.{◌≡◌, ℕ, true, ◌<◌, ◌≤◌};
 ghost use Rattle.base.specs.Below.{all_below};
 ghost use Rattle.plant.specs.Plant.{lattice_of};
-ghost use Rattle.test20.specs.Raw.{most, Free, level_in, row_level_in, skid_levels_in};
+ghost use Rattle.test20.specs.Raw.{most, Free, level_in, task_levels_in, skid_levels_in};
 
 use plant::Plant;
 use rules::Monitor;
@@ -37,13 +37,14 @@ fn level_ok(v: u8, n: u8) -> bool
 // The levels of one skid and task stand in one row. It looks at all eight and never leaves early, so that the loop has a fixed length: with `.all(..)`
 // over the eight the levels of a maximum plant take 3,700 instructions, and 10,500 over the count, where they take 1,930. Each console call has them.
 #[tactic(auto, using(base::proofs::Scan::noted_none))]
-fn row_ok(m: &Monitor, levels: &[u8; 8], row: usize) -> bool
-    requires { (m.now.plant.requirements ≤ 8) × ((row < 128) × Free levels.now m.now.plant.requirements) }
-    ensures { result ≡ all_below (row_level_in m.now.levels levels.now row) m.now.plant.requirements }
+fn row_ok(m: &Monitor, levels: &[u8; 8], s: usize, t: usize) -> bool
+    requires row_in { (s < 8) × (t < 16) }
+    requires free { (m.now.plant.requirements ≤ 8) × Free levels.now m.now.plant.requirements }
+    ensures { result ≡ task_levels_in m.now.levels levels.now m.now.plant.requirements s t }
 {
     let mut ok = true;
     for d in 0..8 {
-        ok &= level_ok(m.levels[row * 8 + d], levels[d]);
+        ok &= level_ok(m.level(s, t, d), levels[d]);
     }
     ok
 }
@@ -53,7 +54,7 @@ fn skid_levels_ok(m: &Monitor, levels: &[u8; 8], s: usize) -> bool
     requires rest { (s < 8) × Free levels.now m.now.plant.requirements }
     ensures { result ≡ skid_levels_in m.now.levels levels.now m.now.plant.requirements m.now.plant.tasks s }
 {
-    (0..usize::from(m.plant.tasks)).all(|t| row_ok(m, levels, s * 16 + t))
+    (0..usize::from(m.plant.tasks)).all(|t| row_ok(m, levels, s, t))
 }
 
 // `levels` has how many levels each requirement has.

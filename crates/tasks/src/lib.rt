@@ -15,7 +15,7 @@ fn rights_fit(p: &Plant, t: usize, g: usize) -> bool
     requires { (t < 16) × (g < 8) }
     ensures { result ≡ task_rights_fit_in p.now.task_rights p.now.groups t g }
 {
-    let rights = p.task_rights[t * 8 + g];
+    let rights = p.rights_of(t, g);
     none_from(u16::from(rights), Right::COUNT) && (g < usize::from(p.groups) || rights == 0)
 }
 

@@ -6,8 +6,8 @@ use Rattle.writer.proofs.Written.{lent_wrote}
 use Rattle.held.proofs.Put.{counted}
 use Rattle.held.proofs.write_held.Goals as goal
 
-pub write_skids-requires-clause-room : goal.write_skids-requires-clause-room
-write_skids-requires-clause-room c =
+pub write_skids-requires : goal.write_skids-requires
+write_skids-requires c =
     record { fits = simp c.new-list.ensures.begins.0 (omega (arith, list_short c.args.m.now c.requires.known, c.split_at_mut-count.ensures.back_len)) }
 
 pub overflow_cast-count : goal.overflow_cast-count

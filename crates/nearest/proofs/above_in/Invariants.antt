@@ -3,4 +3,4 @@ use Rattle.choice.proofs.Levels.{UnionBut}
 use Rattle.nearest.proofs.above_in.Given as goal
 
 abbrev pub invariant-loop-y : goal.invariant-loop-y
-invariant-loop-y l = UnionBut l.sets l.l l.these l.all l.y-iterator.rest
+invariant-loop-y l = UnionBut l.p.lattice_sets l.l l.these l.all l.y-iterator.rest

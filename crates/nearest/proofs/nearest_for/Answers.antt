@@ -4,4 +4,5 @@ use Rattle.nearest.proofs.nearest_for.Goals as goal
 
 pub returns : goal.returns
 returns c =
-    nearest_made c.args.sets.now c.args.l c.args.places c.args.x _ _ _ c.without_one-nearer.ensures c.above_in-taken.ensures c.without_set.ensures
+    nearest_made c.args.p.now.lattice_sets c.args.l c.args.places c.args.x _ _ _
+    (rw c.above-own.ensures at c.without_one-nearer.ensures) c.above_in-taken.ensures (rw c.above-own.ensures at c.without_set.ensures)

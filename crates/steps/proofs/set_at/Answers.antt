@@ -27,18 +27,18 @@ returns-then-levels_of-v c =
     let h = rw (c.levels_of.ensures, c.from.ensures) at c.if-levels_of-v.true in
     set_does _ c.args.tested.now.passes_test_20 _ _ _ _ (rw (← e) (simp (le-leb _ _ h))) refl
 
-pub bounds-m-from : goal.bounds-m-from
-bounds-m-from c =
+pub put_level-requires : goal.put_level-requires
+put_level-requires c =
     let e = c.in_ok-check_present.ensures ∙ three_items _ _ _ _ _ _ c.then_some.ensures c.then_some-2.ensures c.then_some-3.ensures in
     let k = set_there _ c.args.tested.now.passes_test_20 _ _ _ c.args.v e refl in
     let w = (plant_valid _ c.args.tested.now.passes_test_20).counts in
-    omega (arith, k.0, k.1.0, k.1.1, w.skids_fit, w.tasks_fit, w.requirements_fit)
+    rw (c.from-2.ensures, c.from-3.ensures, c.from-4.ensures) (omega (arith, k, w), omega (arith, k, w), omega (arith, k, w))
 
 pub returns : goal.returns
 returns c =
     let e = c.in_ok-check_present.ensures ∙ three_items _ _ _ _ _ _ c.then_some.ensures c.then_some-2.ensures c.then_some-3.ensures in
     let h = rw (c.levels_of.ensures, c.from.ensures) at c.if-levels_of-v.false in
-    set_does _ c.args.tested.now.passes_test_20 _ _ _ _ (rw (← e) (simp (lt-leb _ _ h))) (rw (c.from-2.ensures, c.from-3.ensures, c.from-4.ensures))
+    set_does _ c.args.tested.now.passes_test_20 _ _ _ _ (rw (← e) (simp (lt-leb _ _ h))) (rw (c.from-2.ensures, c.from-3.ensures, c.from-4.ensures) at c.put_level.ensures)
 
 pub invariant_of-tested-2 : goal.invariant_of-tested-2
 invariant_of-tested-2 c =
@@ -46,4 +46,4 @@ invariant_of-tested-2 c =
     let e = c.in_ok-check_present.ensures ∙ three_items _ _ _ _ _ _ c.then_some.ensures c.then_some-2.ensures c.then_some-3.ensures in
     let h = rw (c.levels_of.ensures, c.from.ensures) at c.if-levels_of-v.false in
     still_passes c.args.tested.now
-    (set_does _ i c.args.s c.args.t c.args.d c.args.v {r = 0} (rw (← e) (simp (lt-leb _ _ h))) (rw (c.from-2.ensures, c.from-3.ensures, c.from-4.ensures)))
+    (set_does _ i c.args.s c.args.t c.args.d c.args.v {r = 0} (rw (← e) (simp (lt-leb _ _ h))) (rw (c.from-2.ensures, c.from-3.ensures, c.from-4.ensures) at c.put_level.ensures))

@@ -6,10 +6,10 @@ use Rattle.stored.proofs.row_ok.Goals as goal
 
 pub loop-d-preserved : goal.loop-d-preserved
 loop-d-preserved c =
-    let passed = c.level_ok-ok.ensures in record {
+    let passed = rw c.level.ensures at c.level_ok-ok.ensures in record {
       noted = noted_more _ _ c.loop-d.invariant.noted passed.tested;
       rest = λ k h l. elim (ℕ_discrete k c.loop-d.d) [
-        | yes e ↦ rw e (sym passed.tested ∙ passed.all_pass (c.requires.1.1 c.loop-d.d (omega arith) c.loop-d-test.true))
+        | yes e ↦ rw e (sym passed.tested ∙ passed.all_pass (c.requires.free.1 c.loop-d.d (omega arith) c.loop-d-test.true))
         | no n ↦ c.loop-d.invariant.rest k h (omega arith)
       ];
     }

@@ -1,6 +1,6 @@
 -- Right by right, in the order of `Right::all`.
 use Rattle.writer.proofs.Written.{writes_none, room_more, writes_more}
-use Rattle.held.proofs.write_tank.Goals as goal
+use Rattle.held.proofs.Held.write_tank.Goals as goal
 
 pub loop-r-init : goal.loop-r-init
 loop-r-init c = writes_none _ _
