@@ -28,11 +28,13 @@ fn add_above(further: &mut [u16; 16], strict: &[u16; 16], j: usize, x: u16)
     }
 }
 
-// Tried with `further.iter().zip(strict)`: the check does not find the proof, and there is no law of `.all` over pairs for what is said of each index.
 fn all_within(further: &[u16; 16], strict: &[u16; 16]) -> bool
     ensures { result ≡ all_below (is_within further.now strict.now) 16 }
 {
-    (0..16).all(|i| further[i] & strict[i] == further[i])
+    further
+        .iter()
+        .zip(strict)
+        .all(|(set, own)| *set & *own == *set)
 }
 
 // 8: the levels are in order. Each is under itself, and what lies above the levels strictly above it lies strictly above it: whole sets are
