@@ -9,7 +9,7 @@ ghost use Rattle.lattice.specs.Sets.{under_in, OrderedSets, Turned, added, turne
 ghost use Rattle.lattice.specs.Table.{join_row};
 
 use lattice::Lattice;
-use sets::{byte_where, has};
+use sets::{Members, byte_where, has};
 use std::array;
 
 // Levels in order: bit j of above[i] where level j is at or above level i, and bit j of under[i] where it is at or under it. `numbers` are the entries
@@ -125,18 +125,16 @@ impl Levels {
         array::from_fn(|j| byte_where(self.above[j], i, i as u8, self.numbers[j]))
     }
 
-    // A level that is a join with level i is above it, so the others are passed over. Entries past the levels stay 255: a set that is not
-    // used shares nothing.
+    // A level that is a join with level i is above it, so the others are left out. Entries past the levels stay 255: a set that is not used
+    // shares nothing.
     fn searched_row(&self, i: usize) -> [u8; 16]
         requires { i < self.now.count }
         ensures { result ≡ join_row self.now.count (under_in self.now.above) i }
     {
         let x = self.above[i];
         let mut found = [255u8; 16];
-        for k in 0..self.count {
-            if has(x, k) {
-                mark(&mut found, &self.above, x, k);
-            }
+        for k in Members::of(x) {
+            mark(&mut found, &self.above, x, k);
         }
         found
     }
