@@ -7,7 +7,7 @@ ghost use Rattle.lattice.specs.Levels.{Layout, under, ordered};
 ghost use Rattle.lattice.specs.Sets.{Strict, raised, is_within};
 
 use lattice::Lattice;
-use sets::{has, with_set, without_one};
+use sets::{has, without_one};
 use std::array;
 
 // What lies strictly above each level. All sixteen sets are made: one that is not used is empty.
@@ -24,7 +24,7 @@ fn add_above(further: &mut [u16; 16], strict: &[u16; 16], j: usize, x: u16)
     ensures { further.new ≡ raised strict.now j x further.old }
 {
     for (i, set) in further.iter_mut().enumerate() {
-        *set = with_set(*set, strict[i], j, x);
+        *set = if has(strict[i], j) { *set | x } else { *set };
     }
 }
 
