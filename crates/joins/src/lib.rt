@@ -10,9 +10,8 @@ ghost use Rattle.lattice.specs.Table.{join_table, row_full, table_full};
 use lattice::Lattice;
 use rows::Levels;
 
-// The table of joins. Of the turned order it is the table of meets. 255 stands for no join: with `Option<u8>` for an entry check 9 of a maximum plant's
-// eight lattices, built by itself, takes 23,000 instructions more (27,100 with 255), and written in Rust 15,000 more. Opening such a plant takes 40,900,
-// and its aim of 3 (docs/PERFORMANCE.md) is at 51,700.
+// The table of joins. Of the turned order it is the table of meets. 255 stands for no join: with `Option<u8>` for an entry, opening a maximum plant takes
+// 35,900 instructions more, 73,600 in all, and misses its aim of 3 (docs/PERFORMANCE.md), which is at 51,800.
 #[tactic(auto, using(base::proofs::Filled::filled))]
 fn table(levels: &Levels) -> [[u8; 16]; 16]
     ensures { result ≡ join_table levels.now.count (under_in levels.now.above) }
