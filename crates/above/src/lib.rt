@@ -17,7 +17,8 @@ fn strict_sets(s: &[u16; 16]) -> [u16; 16]
     array::from_fn(|i| without_one(s[i], i))
 }
 
-// Level j, whose set is x, lies strictly above the levels that have it in `strict`: what lies above it lies further above them.
+// Level j, whose set is x, lies strictly above the levels that have it in `strict`: what lies above it lies further above them. By the index, since an
+// invariant has no word for the entries of `further` where they come in pairs with those of `strict`.
 #[tactic(auto, using(base::proofs::Filled::filled))]
 fn add_above(further: &mut [u16; 16], strict: &[u16; 16], j: usize, x: u16)
     requires { j < 16 }
@@ -28,13 +29,14 @@ fn add_above(further: &mut [u16; 16], strict: &[u16; 16], j: usize, x: u16)
     }
 }
 
+// What lies further above each level lies strictly above it.
 fn all_within(further: &[u16; 16], strict: &[u16; 16]) -> bool
     ensures { result ≡ all_below (is_within further.now strict.now) 16 }
 {
     further
         .iter()
         .zip(strict)
-        .all(|(set, own)| *set & *own == *set)
+        .all(|(beyond, above)| *beyond & *above == *beyond)
 }
 
 // 8: the levels are in order. Each is under itself, and what lies above the levels strictly above it lies strictly above it: whole sets are

@@ -63,7 +63,8 @@ pub fn numbers_to(n: usize) -> [u8; 16]
     array::from_fn(|j| if j < n { j as u8 } else { 255 })
 }
 
-// Level k is the join of the level whose set is x and of each level whose set shares with x what set k has.
+// Level k is the join of the level whose set is x and of each level whose set shares with x what set k has. By the index, since an invariant has no word
+// for the entries of the row where they come in pairs with the sets.
 #[tactic(auto, using(base::proofs::Filled::filled))]
 fn mark(row: &mut [u8; 16], s: &[u16; 16], x: u16, k: usize)
     requires { k < 16 }
