@@ -7,7 +7,7 @@ ghost use Rattle.lattice.specs.Levels.{Layout, under, ordered};
 ghost use Rattle.lattice.specs.Sets.{Strict, raised, is_within};
 
 use lattice::Lattice;
-use sets::{has, with_set, without_one};
+use sets::{has, without_one};
 use std::array;
 
 // What lies strictly above each level. All sixteen sets are made: one that is not used is empty.
@@ -17,22 +17,26 @@ fn strict_sets(s: &[u16; 16]) -> [u16; 16]
     array::from_fn(|i| without_one(s[i], i))
 }
 
-// Level j, whose set is x, lies strictly above the levels that have it in `strict`: what lies above it lies further above them.
+// Level j, whose set is x, lies strictly above the levels that have it in `strict`: what lies above it lies further above them. By the index, since an
+// invariant has no word for the entries of `further` where they come in pairs with those of `strict`.
 #[tactic(auto, using(base::proofs::Filled::filled))]
 fn add_above(further: &mut [u16; 16], strict: &[u16; 16], j: usize, x: u16)
     requires { j < 16 }
     ensures { further.new ≡ raised strict.now j x further.old }
 {
     for (i, set) in further.iter_mut().enumerate() {
-        *set = with_set(*set, strict[i], j, x);
+        *set = if has(strict[i], j) { *set | x } else { *set };
     }
 }
 
-// Tried with `further.iter().zip(strict)`: the check does not find the proof, and there is no law of `.all` over pairs for what is said of each index.
+// What lies further above each level lies strictly above it.
 fn all_within(further: &[u16; 16], strict: &[u16; 16]) -> bool
     ensures { result ≡ all_below (is_within further.now strict.now) 16 }
 {
-    (0..16).all(|i| further[i] & strict[i] == further[i])
+    further
+        .iter()
+        .zip(strict)
+        .all(|(beyond, above)| *beyond & *above == *beyond)
 }
 
 // 8: the levels are in order. Each is under itself, and what lies above the levels strictly above it lies strictly above it: whole sets are

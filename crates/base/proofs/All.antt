@@ -1,6 +1,6 @@
--- The test `.all(..)` over a range and over the front of a slice, and `.contains(..)` of such a front, in the words of specs/Below: r is what the call
--- returned. Assumes nothing.
-use mathlib.Core.Path.{◌≡◌, refl, ap, ap₂, ◌∙◌}
+-- The test `.all(..)` over a range, over the front of a slice and over the pairs of two slices, and `.contains(..)` of such a front, in the words of
+-- specs/Below: r is what the call returned. Assumes nothing.
+use mathlib.Core.Path.{◌≡◌, refl, sym, ap, ap₂, ◌∙◌}
 use Prim.Native.Nat.{ℕ, zero, suc, ◌+◌, ◌≤◌}
 use native.Mathlib.Numerals.{add-one}
 use native.Mathlib.Omega.{arith}
@@ -11,17 +11,22 @@ use denote.Param.Members.{Mut}
 use denote.Ref.{Bor}
 use Rattle.std.specs.Fn.{Called}
 use Rattle.std.specs.Iterator.{YieldsThen}
-use Rattle.std.specs.List.{list_all, list_any, range_with_len, FoldsTo}
+use Rattle.std.specs.Iterator.Adapters.{zip_first, zip_second}
+use Rattle.std.specs.List.{list_all, list_any, range_with_len, zip, FoldsTo}
 use Rattle.std.specs.Option.{MatchOption}
 use Rattle.std.specs.Slice.Iter.{iter_rest}
 use Rattle.std.specs.declared.option.Option.{Option}
+use Rattle.std.specs.declared.iter.Zip.{Zip}
 use Rattle.std.specs.declared.ops.Range.{Range}
 use Rattle.std.specs.declared.slice.Iter.{Iter}
 use Rattle.std.proofs.iter.Yields.{fronts, nat_range_steps}
-use Rattle.std.proofs.lemmas.Iterator.{YieldsList-from_slice, YieldsList-from_range}
+use Rattle.std.proofs.lemmas.Iterator.{zips, YieldsList-from_slice, YieldsList-from_range, YieldsList-from_zip}
 use Rattle.std.proofs.lemmas.Iterator.Search.{all_from_yields_List}
+use Rattle.std.proofs.lemmas.List.{take_all}
 use Rattle.std.proofs.lemmas.List.Folds.{list_all_more, list_any_more, list_all-append}
+use Rattle.std.proofs.lemmas.Slice.Zip.{length-zip, get_or-zip}
 use Rattle.base.specs.Below.{all_below}
+use Rattle.base.proofs.Below.{all_same}
 
 not_or : (a b : Bool) → not (a || b) ≡ not a && not b
 not_or true b = refl
@@ -68,3 +73,13 @@ module _ {F : Type 0} {g : Mut F (ℕ × Unit {0}) Bool} {s u : Range ℕ} {f : 
 module _ {A F : Type 0} {g : Mut F (Bor A × Unit {0}) Bool} {s u : Iter A} {f : F} {r : Bool} (p : A → Bool) (d : A) (xs : List A) (n : ℕ) where
   pub all_in_front : Ran fronts g true r s u f → iter_rest s ≡ take n xs → n ≤ length xs → Computes g f (λ x. x.now) p → r ≡ all_below (λ i. p (get_or xs i d)) n
   all_in_front ran e l k = all_from_yields_List p u f r ran (YieldsList-from_slice (take n xs) e) k ∙ front_all p d xs n l
+
+-- `xs.iter().zip(ys).all(|(x, y)| ..)`, of two lists of n elements
+module _ {A B F : Type 0} {g : Mut F ((Bor A × Bor B) × Unit {0}) Bool} {s : Zip (Iter A) (Iter B)} {f : F} {r : Bool} (u : Zip (Iter A) (Iter B)) (p : A → B → Bool) (d : A) (e : B) (xs : List A) (ys : List B) (n : ℕ) where
+  pub all_in_pairs : Ran (zips fronts fronts) g true r s u f → iter_rest (zip_first s) ≡ xs → iter_rest (zip_second s) ≡ ys → length xs ≡ n → length ys ≡ n
+      → Computes {B = A × B} g f (λ x. (x.0.now, x.1.now)) (λ q. p q.0 q.1) → r ≡ all_below (λ i. p (get_or xs i d) (get_or ys i e)) n
+  all_in_pairs ran a b k l h =
+      all_from_yields_List (λ q. p q.0 q.1) u f r ran (YieldsList-from_zip (YieldsList-from_slice xs a) (YieldsList-from_slice ys b)) h
+      ∙ ap (list_all (λ q. p q.0 q.1)) (sym (take_all n (zip xs ys) (omega (arith, length-zip xs ys))))
+      ∙ front_all (λ q. p q.0 q.1) (d, e) (zip xs ys) n (omega (arith, length-zip xs ys))
+      ∙ all_same n _ _ (λ i m. ap (λ q. p q.0 q.1) (get_or-zip xs ys i (d, e) (omega arith) (omega arith)))

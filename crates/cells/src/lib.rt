@@ -16,8 +16,8 @@ pub trait Cell: Copy {
     // How many bytes it takes.
     const WIDTH: usize;
 
-    // `Default` says of a value that it is a default of its type and not which, so a reader, whose promise names the zeros, would have them as a ghost and
-    // a law in place of this constant.
+    // Tried with `Default` in its place. It says of a value that it is a default of its type and not which, so that a reader promises some default behind
+    // the cells, and the plant of the records wants a step by hand for each of its nine fields to say that it is 0.
     const ZERO: Self;
 
     ghost WIDTH: { ℕ };
@@ -106,7 +106,7 @@ pub struct SectionField<T: Cell> {
     pub ghost within: { field.from + field.run * T.WIDTH ≤ width (section_number section) },
 }
 
-// The same of a section of a file. Without this function between, the compiler copies each array once more: opening takes 60 instructions more.
+// The same of a section of a file.
 pub fn read_field<T: Cell, const N: usize>(file: PlantFile, from: SectionField<T>) -> [T; N]
     requires { limit (section_number from.section) * from.field.run ≤ N }
     ensures { let k = section_number from.section in result ≡ section_cells T.number_at T.WIDTH file.entry.header.file.now k from.field.from from.field.run (replicate N T.ZERO) }

@@ -2,7 +2,7 @@
 // The bound of an index is a clause and no type: a type would be made of a number at each call and taken apart at each array.
 #![tactic(auto)]
 
-ghost use Rattle.std.specs.Prelude.{◌≡◌, ◌≤◌};
+ghost use Rattle.std.specs.Prelude.{◌≡◌, ◌≤◌, length};
 ghost use Rattle.lattice.specs.Levels.{complete};
 ghost use Rattle.lattice.specs.Sets.{under_in, OrderedSets};
 ghost use Rattle.lattice.specs.Table.{join_table, row_full, table_full};
@@ -10,9 +10,8 @@ ghost use Rattle.lattice.specs.Table.{join_table, row_full, table_full};
 use lattice::Lattice;
 use rows::Levels;
 
-// The table of joins. Of the turned order it is the table of meets. 255 stands for no join: with `Option<u8>` for an entry check 9 of a maximum plant's
-// eight lattices, built by itself, takes 23,000 instructions more (27,100 with 255), and written in Rust 15,000 more. Opening such a plant takes 40,900,
-// and its aim of 3 (docs/PERFORMANCE.md) is at 51,700.
+// The table of joins. Of the turned order it is the table of meets. 255 stands for no join: with `Option<u8>` for an entry, opening a maximum plant takes
+// 35,900 instructions more, 73,600 in all, and misses its aim of 3 (docs/PERFORMANCE.md), which is at 51,800.
 #[tactic(auto, using(base::proofs::Filled::filled))]
 fn table(levels: &Levels) -> [[u8; 16]; 16]
     ensures { result ≡ join_table levels.now.count (under_in levels.now.above) }
@@ -24,13 +23,10 @@ fn table(levels: &Levels) -> [[u8; 16]; 16]
     rows
 }
 
-// It has the whole row and takes the front itself. Tried with this test in the closure of `is_full`: the check does not find there what `.contains` of a
-// front says of the row.
-fn is_row_full(row: &[u8; 16], n: usize) -> bool
-    requires { n ≤ 16 }
-    ensures { result ≡ row_full n row.now }
+fn is_row_full(row: &[u8]) -> bool
+    ensures { result ≡ row_full (length row.now) row.now }
 {
-    !row[..n].contains(&255)
+    !row.contains(&255)
 }
 
 // Each pair of levels has its entry.
@@ -38,7 +34,7 @@ fn is_full(table: &[[u8; 16]; 16], n: usize) -> bool
     requires { n ≤ 16 }
     ensures { result ≡ table_full n table.now }
 {
-    table[..n].iter().all(|row| is_row_full(row, n))
+    table[..n].iter().all(|row| is_row_full(&row[..n]))
 }
 
 // 9: each pair of levels has a join and a meet.

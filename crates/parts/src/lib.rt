@@ -1,10 +1,10 @@
 // The sections of a plant file: checks 5 and 6, a file that passes 1 to 6, the part that a section fills, and the section call.
 #![tactic(auto)]
 
-ghost use Rattle.std.specs.Prelude.{◌≡◌, ◌*◌, ◌≤◌, length, IfOk};
+ghost use Rattle.std.specs.Prelude.{◌≡◌, ◌+◌, ◌*◌, ◌≤◌, length, IfOk};
 ghost use Rattle.base.specs.Below.{all_below};
 ghost use Rattle.refusal.specs.Number.{answer_of};
-ghost use Rattle.layout.specs.Layout.{file_limit, width, limit, count, part};
+ghost use Rattle.layout.specs.Layout.{file_limit, width, limit, count, offset, size, part};
 ghost use Rattle.layout.specs.Section.{section_number};
 ghost use Rattle.layout.specs.Header.{inside, all_inside, apart, all_apart, header_refusal, section_place, section_of};
 
@@ -70,16 +70,29 @@ pub struct Part<'a> {
 }
 
 impl<'a> PlantFile<'a> {
+    // Where a section stands in the file.
+    fn place(self, section: Section) -> Place
+        ensures begin { result.begin ≡ offset self.entry.header.file.now (section_number section) }
+        ensures length { result.length ≡ size self.entry.header.file.now (section_number section) }
+        ensures within { result.begin + result.length ≤ length self.entry.header.file.now }
+    {
+        let begin = self.header.offset(section);
+        let end = self.header.end(section);
+        Place {
+            begin,
+            length: end - begin,
+        }
+    }
+
     pub fn part(self, section: Section) -> Part<'a>
         ensures bytes { result.bytes.now ≡ part self.entry.header.file.now (section_number section) }
         ensures width { result.width ≡ width (section_number section) }
         ensures count { result.count ≡ count self.entry.header.file.now (section_number section) }
         ensures few { result.count ≤ limit (section_number section) }
     {
-        let begin = self.header.offset(section);
-        let end = self.header.end(section);
+        let Place { begin, length } = self.place(section);
         Part {
-            bytes: &self.header.file[begin..end],
+            bytes: &self.header.file[begin..begin + length],
             width: width_of(section),
             count: self.header.count(section),
         }
@@ -125,20 +138,13 @@ pub fn section_place(file: &[u8], kind: usize) -> Place
     let Ok(section) = Section::try_from(kind) else {
         return Place::default();
     };
-    let begin = plant_file.header.offset(section);
-    let end = plant_file.header.end(section);
-    Place {
-        begin,
-        length: end - begin,
-    }
+    plant_file.place(section)
 }
 
 // 01's section call: that part itself.
 pub fn section(file: &[u8], kind: usize) -> &[u8]
     ensures { result.now ≡ section_of file.now kind }
 {
-    let place = section_place(file, kind);
-    let begin = place.begin;
-    let end = begin + place.length;
-    &file[begin..end]
+    let Place { begin, length } = section_place(file, kind);
+    &file[begin..begin + length]
 }

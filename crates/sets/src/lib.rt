@@ -3,8 +3,7 @@
 // The bound of an index is a clause and no type: a type would be made of a number at each call and taken apart at each array.
 #![tactic(auto)]
 
-ghost use Rattle.std.specs.Prelude.{◌≡◌, cond, not, ◌&&◌, ◌||◌, eqb, ℕ, ◌^◌, ◌<◌, ◌≤◌, MatchOption};
-ghost use Rattle.std.specs.Int.Bits.{bit_or};
+ghost use Rattle.std.specs.Prelude.{◌≡◌, cond, not, ◌&&◌, ◌||◌, eqb, ℕ, ◌<◌, ◌≤◌, MatchOption};
 ghost use Rattle.std.specs.Iterator.{at_most};
 ghost use Rattle.base.specs.Bits.{bit, none_from};
 ghost use Rattle.sets.specs.Members.{TakenFrom};
@@ -24,14 +23,6 @@ pub fn none_from(x: u16, n: u8) -> bool
     ensures { result ≡ none_from n x }
 {
     u32::from(x) >> n == 0
-}
-
-// The union of y and x where level j is in the set `these`, and else y.
-pub fn with_set(y: u16, these: u16, j: usize, x: u16) -> u16
-    requires { j < 16 }
-    ensures { result ≡ cond (bit these j) (bit_or y x) y }
-{
-    if has(these, j) { y | x } else { y }
 }
 
 // The set x with the number i in it. Sets of levels and sets of groups are the bits of a number.

@@ -1,8 +1,9 @@
--- Try.
+-- Each row is tested by its front.
 use Rattle.std.proofs.Common.{rules, tests, []}
 use Rattle.base.proofs.All.{all_in_front}
+use Rattle.lattice.proofs.Tables.{front_full}
 use Rattle.lattice.specs.Table.{row_full}
 use Rattle.joins.proofs.is_full.Goals as goal
 
 pub returns : goal.returns
-returns c = all_in_front (row_full c.args.n) [] _ _ c.all.ensures.ran (cc) (search rules) (λ x b q k. search (rules, tests))
+returns c = all_in_front (row_full c.args.n) [] _ _ c.all.ensures.ran (cc) (search rules) (λ x b q k. search (rules, tests, front_full))

@@ -1,7 +1,6 @@
 -- An empty part on refusal, and else where the section begins and how long it is.
-use Rattle.std.proofs.Common.{◌≡◌, ◌∙◌}
+use Rattle.std.proofs.Common.{◌∙◌}
 use Rattle.refusal.proofs.NotZero.{number_not_0}
-use Rattle.layout.specs.Section.{section_number}
 use Rattle.layout.proofs.Placed.{place_empty, place_refused, place_unknown, place_known}
 use Rattle.layout.proofs.Sections.{number_below}
 use Rattle.parts.proofs.section_place.Goals as goal
@@ -14,5 +13,4 @@ returns-in_default-try_from c = place_empty c.default-in_default-try_from.ensure
 
 pub returns : goal.returns
 returns c =
-    let e : section_number c.in-Ok-try_from.section ≡ c.args.kind = c.in-Ok-try_from.ensures in
-    rw (← e) (place_known _ _ c.in-Ok.ensures.number c.in-Ok.ensures.same (number_below c.in-Ok-try_from.section) c.offset-begin.ensures.0 c.end-end.ensures)
+    rw (← c.in-Ok-try_from.ensures) (place_known _ _ c.in-Ok.ensures.number c.in-Ok.ensures.same (number_below c.in-Ok-try_from.section) c.place.ensures.begin c.place.ensures.length)

@@ -1,13 +1,10 @@
 -- Checks 1 to 6 hold, so the part lies within the file and has the section's records, which are no longer than a file.
-use Rattle.std.proofs.Common.{arith, rules}
+use Rattle.std.proofs.Common.{rules}
 use Rattle.layout.specs.Section.{section_number}
-use Rattle.layout.proofs.Header.{counts_in_range, sections_inside}
+use Rattle.layout.proofs.Header.{counts_in_range}
 use Rattle.layout.proofs.Parts.{part_records, records_fit}
 use Rattle.layout.proofs.Sections.{number_below}
 use Rattle.parts.proofs.PlantFile.part.Goals as goal
-
-pub slice_bounds-result-end : goal.slice_bounds-result-end
-slice_bounds-result-end c = omega (arith, c.end-end.ensures, (sections_inside _ c.args.self.placed (section_number c.args.section) (number_below c.args.section)).1)
 
 pub invariant_of-result : goal.invariant_of-result
 invariant_of-result c =

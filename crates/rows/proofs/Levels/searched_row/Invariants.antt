@@ -1,7 +1,6 @@
--- The row has the joins among the levels passed.
-use Rattle.std.proofs.Common.{◌≡◌}
-use Rattle.lattice.proofs.Marked.{row_to}
+-- The row has the joins among the levels that are no longer in the rest.
+use Rattle.lattice.proofs.Marked.{RowBut}
 use Rattle.rows.proofs.Levels.searched_row.Given as goal
 
 abbrev pub invariant-loop-k : goal.invariant-loop-k
-invariant-loop-k l = l.found ≡ row_to l.self.above l.i l.k
+invariant-loop-k l = RowBut l.self.count l.self.above l.i l.k-iterator.rest l.found
