@@ -1,4 +1,5 @@
-// The monitor's record. The rules of its calls, the history of a list of calls and demand 3 stand in specs/ and proofs/.
+// The monitor's record, and one that has passed test 20. The rules of the calls, the history of a list of calls and demand 3 stand in specs/ and
+// proofs/.
 #![tactic(auto)]
 
 ghost use Rattle.std.specs.Prelude.{◌≡◌, true, ◌<◌, get_or, slice_set};
@@ -50,7 +51,8 @@ impl Monitor {
     }
 }
 
-// A record that has passed test 20. `sized` says what the record's type does, since the check reads no length off an array in a field of a field.
+// A record that has passed test 20, whoever made it. No call makes it fail (`still_passes`, calls proofs/Steps). `sized` says what the record's type
+// does, since the check reads no length off an array in a field of a field.
 #[derive(Clone, Copy)]
 pub struct Tested {
     pub monitor: Monitor,

@@ -3,7 +3,6 @@ use Rattle.std.proofs.Common.{List, arith, ap, ◌∙◌}
 use Rattle.rules.specs.Rules.{Call}
 use Rattle.rules.specs.Record.{replies, final}
 use Rattle.base.specs.Overlay.{overlay}
-use Rattle.requests.proofs.Step.{passed_on}
 use Rattle.queue.proofs.Turns.{first_state, first_buffer, next_state, next_buffer, all_made}
 use Rattle.queue.proofs.serve.Goals as goal
 
@@ -19,10 +18,9 @@ loop-i-preserved c =
     let out = c.args.out.now in
     let v = c.loop-i.invariant in
     let l = c.loop-i-test.true in
-    let e = passed_on c.loop-i.current c.call_at.ensures in
     record {
-      record_is = next_state m rs out c.loop-i.i l v.record_is e;
-      buffer_is = next_buffer m rs out c.loop-i.i l (omega (arith, l, c.requires)) v.record_is v.buffer_is e;
+      record_is = next_state m rs out c.loop-i.i l v.record_is c.advance.ensures;
+      buffer_is = next_buffer m rs out c.loop-i.i l (omega (arith, l, c.requires)) v.record_is v.buffer_is c.advance.ensures;
     }
 
 pub returns-clause-record_after : goal.returns-clause-record_after

@@ -5,6 +5,6 @@ use Rattle.queue.proofs.serve.Given as goal
 
 abbrev pub invariant-loop-i : goal.invariant-loop-i
 invariant-loop-i l = record {
-  record_is : l.current.monitor ≡ state l.fn.tested.monitor l.rs l.fn.out l.i;
+  record_is : l.tested.monitor ≡ state l.fn.tested.monitor l.rs l.fn.out l.i;
   buffer_is : l.out ≡ buffer l.fn.tested.monitor l.rs l.fn.out l.i;
 }

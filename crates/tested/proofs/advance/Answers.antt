@@ -3,4 +3,4 @@ use Rattle.requests.proofs.Step.{passed_on}
 use Rattle.tested.proofs.advance.Goals as goal
 
 pub returns : goal.returns
-returns c = (passed_on c.args.tested c.call_at-answer.ensures, c.call_at-answer.new.tested.passes_test_20)
+returns c = passed_on c.args.tested c.call_at.ensures
