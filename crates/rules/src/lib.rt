@@ -1,4 +1,5 @@
 // The monitor's record. The rules of its calls, the history of a list of calls and demand 3 stand in specs/ and proofs/.
+// The bound of an index is a clause and no type: a type would be made of a number at each call and taken apart at each array.
 #![tactic(auto)]
 
 ghost use Rattle.std.specs.Prelude.{◌≡◌, ◌<◌, get_or, slice_set};
