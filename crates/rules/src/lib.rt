@@ -1,5 +1,6 @@
 // The monitor's record, and one that has passed test 20. The rules of the calls, the history of a list of calls and demand 3 stand in specs/ and
 // proofs/.
+// The bound of an index is a clause and no type: a type would be made of a number at each call and taken apart at each array.
 #![tactic(auto)]
 
 ghost use Rattle.std.specs.Prelude.{◌≡◌, true, ◌<◌, get_or, slice_set};
