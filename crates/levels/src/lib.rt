@@ -33,13 +33,11 @@ fn sets_clear(lattice: &Lattice) -> bool
 }
 
 // 7: the record keeps its layout.
+#[tactic(auto, unfolding(lattice::specs::Levels::layout))]
 fn laid_out(lattice: &Lattice) -> bool
     ensures { result ≡ layout lattice.now }
 {
-    match lattice.n {
-        1..=16 => sets_clear(lattice),
-        _ => false,
-    }
+    (1..=16).contains(&lattice.n) && sets_clear(lattice)
 }
 
 // Checks 7 to 9 of a lattice record.

@@ -142,6 +142,7 @@ pub fn section_place(file: &[u8], kind: usize) -> Place
 }
 
 // 01's section call: that part itself.
+#[tactic(auto, using(layout::proofs::Placed::place_within))]
 pub fn section(file: &[u8], kind: usize) -> &[u8]
     ensures { result.now ≡ section_of file.now kind }
 {
