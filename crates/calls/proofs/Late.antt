@@ -20,13 +20,13 @@ use Rattle.plant.specs.Plant.{requirement_of, needs}
 use Rattle.plant.specs.Valid.{Valid}
 use Rattle.choice.specs.Choice.{unset, if_set, served, choice}
 use Rattle.choice.proofs.Choice.{choice_is, choice_none}
-use Rattle.choice.specs.Table.{ChoicesIn}
+use Rattle.choice.specs.Table.{made_at, ChoicesIn}
 use Rattle.choice.proofs.Search.{table_choice, choice_same}
 use Rattle.refusal.specs.declared.Refusal.{Refusal}
 use Rattle.refusal.specs.Number.{answer_of}
 use Rattle.rules.specs.declared.Monitor.{Monitor}
 use Rattle.rules.specs.Rules.{blank_at, blank, lacking, conditions, pick_for}
-use Rattle.calls.specs.Work.{level_known, made_at, wish_in, found_in, blank_in, lacking_in, pick_in, NeedOf, Reached, RowDone, get_row}
+use Rattle.calls.specs.Work.{level_known, wish_in, found_in, blank_in, lacking_in, pick_in, NeedOf, Reached, RowDone, get_row}
 use Rattle.calls.specs.Start.{Startable, SearchReads, LateReads, Looked, NeedsAt, wish_of, stored_wish, late_tests}
 use Rattle.calls.proofs.Made.{reached, over_groups, needed_there}
 use Rattle.calls.proofs.Known.{known, none_set, byte_set}
@@ -88,11 +88,11 @@ module _ {s t : ℕ} {m : Monitor} (W : Startable s t m) where
   }
 
 -- a table of all choices has what a start looks up
-pub table_looked : {P : Plant} {levels : List ℕ} {s t : ℕ} → SearchReads P levels s t → {made : List (Option ℕ)} → ChoicesIn P made → Looked P levels s t made
+pub table_looked : {P : Plant} {levels : List ℕ} {s t : ℕ} → SearchReads P levels s t → {made : List (List (Option ℕ))} → ChoicesIn P made → Looked P levels s t made
 table_looked {P} {levels} {s} {t} R c g l n = table_choice P c g (stored_wish levels s t) l.0 (known (stored_wish levels s t (requirement_of P g)) 16 (R.levels_known g l.0) n)
 
 -- What the row of a start is in the rules' words, where `need` is the set of the task's groups.
-module _ {made : List (Option ℕ)} {s t : ℕ} {m : Monitor} (R : LateReads made s t m) (need : ℕ) (n : NeedOf m.plant t need) where
+module _ {made : List (List (Option ℕ))} {s t : ℕ} {m : Monitor} (R : LateReads made s t m) (need : ℕ) (n : NeedOf m.plant t need) where
   abbrev P : Plant
   P = m.plant
 

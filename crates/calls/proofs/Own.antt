@@ -17,5 +17,5 @@ module _ (m : Monitor) (i : intact m.plant m ≡ true) (s t : ℕ) (l : (s < m.p
   pub own_search : SearchReads m.plant m.levels s t
   own_search = search_reads own_start
 
-  pub own_late : {made : List (Option ℕ)} → Looked m.plant m.levels s t made → LateReads made s t m
+  pub own_late : {made : List (List (Option ℕ))} → Looked m.plant m.levels s t made → LateReads made s t m
   own_late h = record { startable = own_start; table = h }

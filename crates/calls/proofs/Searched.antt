@@ -1,22 +1,21 @@
 -- The choices that a start by itself looks up, searched for one group after the other. Assumes nothing.
 use mathlib.Core.Path.{◌≡◌, refl, sym, ap, ◌∙◌}
 use mathlib.Core.Logic.{◌≢◌}
-use Prim.Native.Nat.{ℕ, ◌+◌, ◌*◌, ◌<◌}
+use Prim.Native.Nat.{ℕ, ◌<◌}
 use native.Mathlib.Omega.{arith}
 use mathlib.Core.Bool.{true, false, not, ◌&&◌}
 use mathlib.Core.Bool as bool
 use mathlib.Core.List.{List}
 use lib.Dec.{eqb}
-use lib.ListN.{length, get_or, set, length-set}
-use lib.Seq.{get_or-set_same, get_or-set_other}
 use borrow.Author.Tests.{eqb-true, eqb-false}
-use Rattle.std.specs.Prelude.{Option, None}
+use Rattle.std.specs.Prelude.{Option}
 use Rattle.base.specs.Bits.{bit}
 use Rattle.base.proofs.Logic.{split, and_true}
 use Rattle.plant.specs.declared.Plant.{Plant}
 use Rattle.plant.specs.Plant.{requirement_of}
 use Rattle.choice.specs.Choice.{unset, if_set, choice}
-use Rattle.choice.specs.Table.{group_choice}
+use Rattle.choice.specs.Table.{made_at, with_made, EightRows, group_choice}
+use Rattle.choice.proofs.Entries.{rows_put, entry_own, entry_other_group}
 use Rattle.choice.proofs.Search.{search_choice}
 use Rattle.sets.specs.Members.{TakenFrom}
 use Rattle.calls.specs.Work.{NeedOf}
@@ -39,13 +38,13 @@ module _ {P : Plant} {levels : List ℕ} {s t : ℕ} (R : SearchReads P levels s
 
 -- what the loop knows when `rest` is left of the set
 module _ (P : Plant) (levels : List ℕ) (s t need : ℕ) where
-  pub record LookedSoFar (rest : ℕ) (made : List (Option ℕ)) : Type 0 where
+  pub record LookedSoFar (rest : ℕ) (made : List (List (Option ℕ))) : Type 0 where
     pub part : (g : ℕ) → bit rest g ≡ true → bit need g ≡ true
-    pub size : length made ≡ 128
+    pub size : EightRows made
     pub entries : (g : ℕ) → seen need rest g ≡ true → stored_wish levels s t (requirement_of P g) ≢ unset
-        → get_or made (g * 16 + stored_wish levels s t (requirement_of P g)) None ≡ if_set (choice P g (stored_wish levels s t))
+        → made_at made g (stored_wish levels s t (requirement_of P g)) ≡ if_set (choice P g (stored_wish levels s t))
 
-module _ {P : Plant} {levels : List ℕ} {s t need rest : ℕ} {made : List (Option ℕ)} (v : LookedSoFar P levels s t need rest made) (R : SearchReads P levels s t) (n : NeedOf P t need) where
+module _ {P : Plant} {levels : List ℕ} {s t need rest : ℕ} {made : List (List (Option ℕ))} (v : LookedSoFar P levels s t need rest made) (R : SearchReads P levels s t) (n : NeedOf P t need) where
   abbrev level : ℕ → ℕ
   level g = stored_wish levels s t (requirement_of P g)
 
@@ -53,13 +52,13 @@ module _ {P : Plant} {levels : List ℕ} {s t need rest : ℕ} {made : List (Opt
   low : (j : ℕ) → bit need j ≡ true → level j ≢ unset → level j < 16
   low j b = level_low R j (needed_there P t need n j b).0
 
-  abbrev entry : List (Option ℕ) → ℕ → Option ℕ
-  entry xs j = get_or xs (j * 16 + level j) None
+  abbrev entry : List (List (Option ℕ)) → ℕ → Option ℕ
+  entry xs j = made_at xs j (level j)
 
   -- group g is taken from the rest, and `left` is the rest without it
   module _ {g left : ℕ} (T : TakenFrom rest g left) where
     -- its entry is right after the step, and those of the others are as before
-    next : {made' : List (Option ℕ)} → length made' ≡ 128 → (level g ≢ unset → entry made' g ≡ if_set (choice P g (stored_wish levels s t)))
+    next : {made' : List (List (Option ℕ))} → EightRows made' → (level g ≢ unset → entry made' g ≡ if_set (choice P g (stored_wish levels s t)))
         → ((j : ℕ) → eqb g j ≡ false → bit need j ≡ true → level j ≢ unset → entry made' j ≡ entry made j) → LookedSoFar P levels s t need left made'
     next a b c = record {
       part = λ j h. v.part j (and_true (bit rest j) (not (eqb g j)) (sym (T.leaves j) ∙ h)).0;
@@ -74,11 +73,11 @@ module _ {P : Plant} {levels : List ℕ} {s t need rest : ℕ} {made : List (Opt
     pub looked_passed : eqb (level g) unset ≡ true → LookedSoFar P levels s t need left made
     looked_passed e = next v.size (λ x. absurd (x (eqb-true _ _ e))) (λ j z b x. refl)
 
-    pub looked_put : eqb (level g) unset ≡ false → {o : Option ℕ} → o ≡ if_set (group_choice P g (level g)) → LookedSoFar P levels s t need left (set made (g * 16 + level g) o)
+    pub looked_put : eqb (level g) unset ≡ false → {o : Option ℕ} → o ≡ if_set (group_choice P g (level g)) → LookedSoFar P levels s t need left (with_made made g (level g) o)
     looked_put f {o} e =
         let b = v.part g T.was_in in
         let k = group_low R g (needed_there P t need n g b).0 in
         let l = low g b (eqb-false _ _ f) in
-        next (simp length-set v.size)
-        (λ x. get_or-set_same made (g * 16 + level g) o None (omega (arith, v.size)) ∙ e ∙ ap if_set (search_choice P g (stored_wish levels s t)))
-        (λ j z h x. get_or-set_other made (g * 16 + level g) (j * 16 + level j) o None (let l' = low j h x in let d = eqb-false g j z in omega arith))
+        next (rows_put v.size g (level g) k o)
+        (λ x. entry_own v.size g (level g) k o l ∙ e ∙ ap if_set (search_choice P g (stored_wish levels s t)))
+        (λ j z h x. entry_other_group v.size g (level g) k o j (level j) (λ y. eqb-false g j z (sym y)))

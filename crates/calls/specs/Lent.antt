@@ -25,7 +25,7 @@ pub record Does (m : Monitor) (c : Call) (number : ℕ) (left : Monitor) : Type 
 
 -- What a list remembers of its plant from one request to the next: the table of choices, made at the first start that passes 26, and the groups
 -- that each task needs.
-pub record Tables (P : Plant) (made : Option (List (Option ℕ))) (needs : List (Option ℕ)) : Type 0 where
+pub record Tables (P : Plant) (made : Option (List (List (Option ℕ)))) (needs : List (Option ℕ)) : Type 0 where
   pub table : Tabled P made
   pub tasks : Needed P needs
 

@@ -1,10 +1,11 @@
 -- What a start finds at its groups and stores, for every record that has what is lent to its parts.
-use Rattle.std.specs.Prelude.{◌≡◌, ◌≢◌, ℕ, ◌+◌, ◌*◌, ◌<◌, true, cond, List, Option, None, eqb, get_or, drop}
+use Rattle.std.specs.Prelude.{◌≡◌, ◌≢◌, ℕ, ◌<◌, true, cond, List, Option, eqb, get_or, drop}
 use Rattle.base.specs.Chain.{Test, first}
 use Rattle.plant.specs.declared.Plant.{Plant}
 use Rattle.plant.specs.Plant.{requirement_of, needs}
 use Rattle.plant.specs.Valid.{Valid}
 use Rattle.choice.specs.Choice.{unset, if_set, choice}
+use Rattle.choice.specs.Table.{made_at}
 use Rattle.rules.specs.declared.Monitor.{Monitor}
 use Rattle.rules.specs.Rules.{start, conditions}
 use Rattle.rules.specs.Record.{view_of, level_at, changed, intact}
@@ -27,9 +28,9 @@ abbrev pub stored_wish : List ℕ → ℕ → ℕ → ℕ → ℕ
 stored_wish levels s t d = get_or levels (level_at s t d) 0
 
 -- `made` has what a start looks up: for each group that the task needs, the choice under the level that the skid has. A list has it of every level.
-abbrev pub Looked : Plant → List ℕ → ℕ → ℕ → List (Option ℕ) → Type 0
+abbrev pub Looked : Plant → List ℕ → ℕ → ℕ → List (List (Option ℕ)) → Type 0
 Looked P levels s t made = (g : ℕ) → NeedsAt P t g → stored_wish levels s t (requirement_of P g) ≢ unset
-    → get_or made (g * 16 + stored_wish levels s t (requirement_of P g)) None ≡ if_set (choice P g (stored_wish levels s t))
+    → made_at made g (stored_wish levels s t (requirement_of P g)) ≡ if_set (choice P g (stored_wish levels s t))
 
 -- What the choices are searched in: the plant's items are linked, and the skid's levels in the task are unset or levels.
 pub record SearchReads (P : Plant) (levels : List ℕ) (s t : ℕ) : Type 0 where
@@ -45,7 +46,7 @@ pub record Startable (s t : ℕ) (m : Monitor) : Type 0 where
   pub task : t < m.plant.tasks
 
 -- what the late conditions read
-pub record LateReads (made : List (Option ℕ)) (s t : ℕ) (m : Monitor) : Type 0 where
+pub record LateReads (made : List (List (Option ℕ))) (s t : ℕ) (m : Monitor) : Type 0 where
   pub startable : Startable s t m
   pub table : Looked m.plant m.levels s t made
 

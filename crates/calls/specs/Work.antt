@@ -45,10 +45,6 @@ pub record Granted (rights running : List ℕ) (skids : ℕ) (granted : List ℕ
 abbrev pub granted_in : List ℕ → List ℕ → List ℕ → ℕ → ℕ → ℕ → Bool
 granted_in group granted chosen s o r = eqb (get_or chosen (chosen_at s (get_or group o 0)) 0) o && has_right (get_or granted (chosen_at s (get_or group o 0)) 0) r
 
--- what a table of choices has for group g and level v
-abbrev pub made_at : List (Option ℕ) → ℕ → ℕ → Option ℕ
-made_at made g v = get_or made (g * 16 + v) None
-
 -- the groups on which task t names a right, as a set
 abbrev pub NeedIn : List ℕ → ℕ → ℕ → ℕ → Type 0
 NeedIn rights t groups need = (g : ℕ) → bit need g ≡ ltb g groups && needs_in rights t g

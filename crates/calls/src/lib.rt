@@ -128,9 +128,8 @@ impl From<Call> for Request {
 // run. The three go by different items, so that no two of them are one array.
 #[derive(Clone, Copy)]
 pub struct Kept {
-    // None until a start makes it. The choice from group g under level v is at g * 16 + v. By rows, `[[Option<u8>; 16]; 8]`, making it takes 10,704
-    // instructions where this takes 6,772, and each start and stop of a list on a maximum plant two more, which is that row of docs/PERFORMANCE.md.
-    pub made: Option<[Option<u8>; 128]>,
+    // None until a start makes it. It has a row for each group, with the choice under each level.
+    pub made: Option<[[Option<u8>; 16]; 8]>,
     // None until a start of the task makes it.
     pub needs: [Option<u16>; 16],
     // Those of skid s on group g are at s * 8 + g, where the record has the tank chosen there: a gate works out one place for both, and `put_row`
@@ -153,8 +152,8 @@ impl Kept {
 
 // The refusal of the first of three items that is missing; `missing` has that of each that is. The three are tested at once before, so that a call
 // whose items are there asks once: of a number that is made first and then compared with 0 each gate takes twelve instructions more, where a mixed
-// request of a batch is less than one under its bar. A start has two items, and two tests that read the record at them, so it asks with an `if` for
-// each of the four.
+// request of a batch on 01's plant takes as many as the baseline's, which is its bar. A start has two items, and two tests that read the record at
+// them, so it asks with an `if` for each of the four.
 pub fn check_present(missing: [Option<Refusal>; 3]) -> Result<(), Refusal>
     ensures { answer_of result ≡ first (map missing_item missing) }
 {

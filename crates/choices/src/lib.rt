@@ -3,31 +3,31 @@
 #![tactic(auto)]
 
 ghost use Rattle.std.specs.Prelude.{◌<◌};
-ghost use Rattle.choice.specs.Table.{Linked, ChoicesIn, Put};
+ghost use Rattle.choice.specs.Table.{EightRows, Linked, ChoicesIn, Put};
 
 use nearest::Places;
 use plant::Plant;
 use sets::Members;
 
 // Tank o goes to the entries of its group g for the levels of the set `near`.
-fn put_choices(made: &mut [Option<u8>; 128], g: usize, near: u16, o: u8)
-    requires { g < 8 }
+fn put_choices(made: &mut [[Option<u8>; 16]; 8], g: usize, near: u16, o: u8)
+    requires { (g < 8) × EightRows made.old }
     ensures { Put g near o made.old made.new }
 {
     for v in Members::of(near) {
-        made[g * 16 + v] = Some(o);
+        made[g][v] = Some(o);
     }
 }
 
-// The choice from each group under each level, at g * 16 + v, where a tank of the group is at or under the level. The tanks go from the highest number
+// The choice from each group under each level, where a tank of the group is at or under the level. The tanks go from the highest number
 // down, so that the lowest is written last. It is not inlined: a list calls it once, and its loops would take registers from each request.
 #[inline(never)]
-pub fn make_choices(p: &Plant) -> [Option<u8>; 128]
+pub fn make_choices(p: &Plant) -> [[Option<u8>; 16]; 8]
     requires { Linked p.now }
     ensures { ChoicesIn p.now result }
 {
     let places = Places::of(p);
-    let mut made = [None; 128];
+    let mut made = [[None; 16]; 8];
     for o in (0..p.tanks).rev() {
         let i = usize::from(o);
         put_choices(&mut made, usize::from(p.tank_group[i]), places.near(i), o);

@@ -6,7 +6,8 @@ ghost use Rattle.std.specs.Prelude.{◌≡◌, ◌<◌, ◌≤◌};
 ghost use Rattle.base.specs.Bits.{bit};
 ghost use Rattle.plant.specs.Plant.{requirement_of};
 ghost use Rattle.choice.specs.Choice.{if_set};
-ghost use Rattle.calls.specs.Work.{made_at, wish_in, NeedOf, Needed, Reached, RowDone};
+ghost use Rattle.choice.specs.Table.{made_at};
+ghost use Rattle.calls.specs.Work.{wish_in, NeedOf, Needed, Reached, RowDone};
 
 use plant::Plant;
 use refusal::Refusal;
@@ -59,7 +60,7 @@ pub fn level_for(m: &Monitor, s: usize, t: usize, g: usize) -> Option<usize>
 // a task needs cannot be predicted.
 pub fn choose_row(
     m: &Monitor,
-    made: &[Option<u8>; 128],
+    made: &[[Option<u8>; 16]; 8],
     s: usize,
     t: usize,
     need: u16,
@@ -74,7 +75,7 @@ pub fn choose_row(
         let Some(v) = level_for(m, s, t, g) else {
             return Err(Refusal::LevelNotSet);
         };
-        match made[g * 16 + v] {
+        match made[g][v] {
             Some(o) => row[g] = o,
             None => lacking = true,
         }

@@ -33,16 +33,16 @@ fn choice_from(places: &Places, g: usize, v: usize) -> Option<u8>
 
 // The choices for the groups of the set `need`, each in the entry of its group and of the level that the skid has; the others are none. A group whose
 // level is unset has none.
-pub fn choices_for(m: &Monitor, s: usize, t: usize, need: u16) -> [Option<u8>; 128]
+pub fn choices_for(m: &Monitor, s: usize, t: usize, need: u16) -> [[Option<u8>; 16]; 8]
     requires reads { SearchReads m.now.plant m.now.levels s t }
     requires need { NeedOf m.now.plant t need }
     ensures { Looked m.now.plant m.now.levels s t result }
 {
     let places = Places::of(&m.plant);
-    let mut made = [None; 128];
+    let mut made = [[None; 16]; 8];
     for g in Members::of(need) {
         if let Some(v) = level_for(m, s, t, g) {
-            made[g * 16 + v] = choice_from(&places, g, v);
+            made[g][v] = choice_from(&places, g, v);
         }
     }
     made

@@ -41,7 +41,7 @@ pub fn start_early(m: &Monitor, s: u8, t: u8) -> Result<(), Refusal>
 // choice, the skid's other groups 255.
 pub fn start_late(
     m: &mut Monitor,
-    made: &[Option<u8>; 128],
+    made: &[[Option<u8>; 16]; 8],
     s: u8,
     t: u8,
     need: u16,
@@ -60,7 +60,7 @@ pub fn start_late(
 // rights granted, and of a `Kept` it would ask that those are right as well.
 pub fn start_at(
     tested: &mut Tested,
-    made: &mut Option<[Option<u8>; 128]>,
+    made: &mut Option<[[Option<u8>; 16]; 8]>,
     needs: &mut [Option<u16>; 16],
     s: u8,
     t: u8,

@@ -1,5 +1,5 @@
 -- What is known of the groups that are no longer in the rest of the set.
-use Rattle.calls.specs.Work.{made_at}
+use Rattle.choice.specs.Table.{made_at}
 use Rattle.calls.proofs.Groups.{FoundSoFar}
 use Rattle.chosen.proofs.choose_row.Given as goal
 

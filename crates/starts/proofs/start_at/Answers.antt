@@ -32,7 +32,7 @@ pub get_or_insert_with-choices-requires : goal.get_or_insert_with-choices-requir
 get_or_insert_with-choices-requires c = λ e. linked _ (plant_valid _ c.args.tested.now.passes_test_20)
 
 -- the table, made before or here
-tabled : {P : Plant} (made : Option (List (Option ℕ))) {choices : List (Option ℕ)} → Tabled P made → MatchOption made (ChoicesIn P choices) (λ x. choices ≡ x) → ChoicesIn P choices
+tabled : {P : Plant} (made : Option (List (List (Option ℕ)))) {choices : List (List (Option ℕ))} → Tabled P made → MatchOption made (ChoicesIn P choices) (λ x. choices ≡ x) → ChoicesIn P choices
 tabled None t e = e
 tabled (Some x) t e = rw e t
 
