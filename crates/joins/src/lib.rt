@@ -12,6 +12,7 @@ use rows::Levels;
 
 // The table of joins. Of the turned order it is the table of meets. 255 stands for no join: with `Option<u8>` for an entry, opening a maximum plant takes
 // 35,900 instructions more, 73,600 in all, and misses its aim of 3 (docs/PERFORMANCE.md), which is at 51,800.
+// A loop: with `array::from_fn` the check does not find what a closure says that reads a struct with ghost fields.
 #[tactic(auto, using(base::proofs::Filled::filled))]
 fn table(levels: &Levels) -> [[u8; 16]; 16]
     ensures { result ≡ join_table levels.now.count (under_in levels.now.above) }
