@@ -1,11 +1,11 @@
 // Opening's checks 3 and 7 to 12 of a plant record, in their order.
-// That the counts are within the record (`Fits`) is a clause of `check_lattices` alone, as entries has it.
 #![tactic(auto)]
 
 ghost use Rattle.std.specs.Prelude.{◌≡◌};
-ghost use Rattle.plant.specs.Checks.{Fits, counts_in, lower, lattices_refusal, plant_refusal};
+ghost use Rattle.plant.specs.Checks.{counts_in, lower, lattices_refusal, plant_refusal};
 ghost use Rattle.refusal.specs.Number.{answer_of};
 
+use entries::Counted;
 use header::count_ok;
 use items::check_items;
 use layout::Section;
@@ -34,10 +34,10 @@ fn lower(a: Result<(), Refusal>, b: Result<(), Refusal>) -> Result<(), Refusal>
 }
 
 // 7 to 9, of all lattices: 8 of one comes before 9 of another.
-fn check_lattices(p: &Plant) -> Result<(), Refusal>
-    requires { Fits p.now }
-    ensures { answer_of result ≡ lattices_refusal p.now }
+fn check_lattices(counted: &Counted) -> Result<(), Refusal>
+    ensures { answer_of result ≡ lattices_refusal counted.now.plant.now }
 {
+    let p = counted.plant;
     let mut outcome = Ok(());
     for l in 0..usize::from(p.lattices) {
         outcome = lower(outcome, check_lattice(&p.lattice(l)));
@@ -57,9 +57,10 @@ pub fn check_plant(p: &Plant, lattice_zeros: bool, other_zeros: bool) -> Result<
     if !lattice_zeros {
         return Err(Refusal::LatticeMalformed);
     }
-    check_lattices(p)?;
+    let counted = Counted { plant: p };
+    check_lattices(&counted)?;
     if !other_zeros {
         return Err(Refusal::EntryOutOfRange);
     }
-    check_items(p)
+    check_items(&counted)
 }

@@ -1,11 +1,7 @@
 // Opening's check 10 on a record: the links and the tanks, and with crate tasks all of it.
-// That the counts are within the record (`Fits`) is a clause and no type. Tried: a struct round `&Plant` with `impl Model`, whose value is the plant and
-// whose invariant is `Fits`. The other clauses stay as they are, but `numbers_ok`, which the check proves alone here, is left with three goals, also with
-// the view rewritten and `links_in` and `front_below` given to the search; and the struct has thirteen lines for three clauses, and each function has to
-// take the plant out of it first.
 #![tactic(auto)]
 
-ghost use Rattle.std.specs.Prelude.{◌≡◌, ◌<◌, length};
+ghost use Rattle.std.specs.Prelude.{◌≡◌, ◌<◌, ◌&&◌, true, length};
 ghost use Rattle.base.specs.Below.{all_below};
 ghost use Rattle.plant.specs.Checks.{Fits, LinksIn, entry_below, tank_fits, numbers_ok};
 
@@ -19,33 +15,13 @@ fn all_below(entries: &[u8], bound: u8) -> bool
     entries.iter().all(|entry| *entry < bound)
 }
 
-// A tank is judged in the lattice of its group's requirement.
-fn tank_fits(p: &Plant, o: usize) -> bool
-    requires fits { Fits p.now }
-    requires links_in { LinksIn p.now }
-    requires tank_in { o < 64 }
-    ensures { result ≡ tank_fits p.now o }
-{
-    let group = p.tank_group[o];
-    if p.groups <= group {
-        return false;
-    }
-    let requirement = p.group_requirement[usize::from(group)];
-    p.tank_level[o] < p.levels_of(usize::from(requirement))
-}
-
-fn tanks_fit(p: &Plant) -> bool
-    requires fits { Fits p.now }
-    requires links_in { LinksIn p.now }
-    ensures { result ≡ all_below (tank_fits p.now) p.now.tanks }
-{
-    (0..usize::from(p.tanks)).all(|o| tank_fits(p, o))
-}
-
-#[tactic(auto, using(plant::proofs::Links::links_in, plant::proofs::Links::front_below), unfolding(plant::specs::Checks::numbers_ok))]
-pub fn numbers_ok(p: &Plant) -> bool
+// Each requirement's lattice and each group's requirement is there.
+#[tactic(auto, using(plant::proofs::Links::links_in, plant::proofs::Links::front_below))]
+fn links_fit(p: &Plant) -> bool
     requires { Fits p.now }
-    ensures { result ≡ numbers_ok p.now }
+    ensures tested { result
+        ≡ all_below (entry_below p.now.requirement_lattice p.now.lattices) p.now.requirements && all_below (entry_below p.now.group_requirement p.now.requirements) p.now.groups }
+    ensures links_in { result ≡ true → LinksIn p.now }
 {
     all_below(
         &p.requirement_lattice[..usize::from(p.requirements)],
@@ -53,7 +29,44 @@ pub fn numbers_ok(p: &Plant) -> bool
     ) && all_below(
         &p.group_requirement[..usize::from(p.groups)],
         p.requirements,
-    ) && tanks_fit(p)
-        && tasks_fit(p)
-        && skids_fit(p)
+    )
+}
+
+// A plant whose counts are within its record.
+#[derive(Clone, Copy)]
+pub struct Counted<'a> {
+    pub plant: &'a Plant,
+    pub ghost fits: { Fits plant.now },
+}
+
+impl<'a> Counted<'a> {
+    // A tank is judged in the lattice of its group's requirement.
+    fn tank_fits(&self, o: usize) -> bool
+        requires links_in { LinksIn self.now.plant.now }
+        requires tank_in { o < 64 }
+        ensures { result ≡ tank_fits self.now.plant.now o }
+    {
+        let p = self.plant;
+        let group = p.tank_group[o];
+        if p.groups <= group {
+            return false;
+        }
+        let requirement = p.group_requirement[usize::from(group)];
+        p.tank_level[o] < p.levels_of(usize::from(requirement))
+    }
+
+    fn tanks_fit(&self) -> bool
+        requires { LinksIn self.now.plant.now }
+        ensures { result ≡ all_below (tank_fits self.now.plant.now) self.now.plant.now.tanks }
+    {
+        (0..usize::from(self.plant.tanks)).all(|o| self.tank_fits(o))
+    }
+
+    // 10, of all entries.
+    #[tactic(auto, unfolding(plant::specs::Checks::numbers_ok))]
+    pub fn numbers_ok(&self) -> bool
+        ensures { result ≡ numbers_ok self.now.plant.now }
+    {
+        links_fit(self.plant) && self.tanks_fit() && tasks_fit(self.plant) && skids_fit(self.plant)
+    }
 }

@@ -1,25 +1,24 @@
 // Opening's checks 10 to 12 on the tanks, tasks and skids of a plant, in their order.
-// That the counts are within the record (`Fits`) is a clause and no type, as entries has it.
 // The bounds of t and g are clauses and no types: a range makes each, and a type would be made of it at each turn and taken apart at each array.
 #![tactic(auto)]
 
 ghost use Rattle.std.specs.Prelude.{◌≡◌, ℕ, ◌+◌, ◌*◌, ◌<◌, ◌≤◌};
 ghost use Rattle.base.specs.Below.{all_below};
 ghost use Rattle.plant.specs.Plant.{group_of, requirement_of};
-ghost use Rattle.plant.specs.Checks.{Fits, levels_distinct, requirement_named, requirements_named, items_refusal};
+ghost use Rattle.plant.specs.Checks.{levels_distinct, requirement_named, requirements_named, items_refusal};
 ghost use Rattle.refusal.specs.Number.{answer_of};
 
-use entries::numbers_ok;
+use entries::Counted;
 use plant::Plant;
 use refusal::Refusal;
 use sets::has;
 
 // 11: no two tanks of one group at one level: each tank in turn finds its place, one for each level and group, free, and takes it.
-fn levels_distinct(p: &Plant) -> bool
-    requires fits { Fits p.now }
-    requires groups_in { (o : ℕ) → o < p.now.tanks → group_of p.now o < 8 }
-    ensures { result ≡ levels_distinct p.now }
+fn levels_distinct(counted: &Counted) -> bool
+    requires { let p = counted.now.plant.now in (o : ℕ) → o < p.tanks → group_of p o < 8 }
+    ensures { result ≡ levels_distinct counted.now.plant.now }
 {
+    let p = counted.plant;
     let mut taken = [[false; 8]; 256];
     for o in 0..usize::from(p.tanks) {
         let level = usize::from(p.tank_level[o]);
@@ -50,27 +49,26 @@ fn task_named(p: &Plant, t: usize) -> bool
     (0..usize::from(p.groups)).all(|g| requirement_named(p, t, g))
 }
 
-fn requirements_named(p: &Plant) -> bool
-    requires fits { Fits p.now }
-    requires requirements_in { (g : ℕ) → g < p.now.groups → requirement_of p.now g < 8 }
-    ensures { result ≡ requirements_named p.now }
+fn requirements_named(counted: &Counted) -> bool
+    requires { let p = counted.now.plant.now in (g : ℕ) → g < p.groups → requirement_of p g < 8 }
+    ensures { result ≡ requirements_named counted.now.plant.now }
 {
+    let p = counted.plant;
     (0..usize::from(p.tasks)).all(|t| task_named(p, t))
 }
 
 // 10, 11 or 12.
 #[tactic(auto, unfolding(plant::specs::Checks::items_refusal))]
-pub fn check_items(p: &Plant) -> Result<(), Refusal>
-    requires { Fits p.now }
-    ensures { answer_of result ≡ items_refusal p.now }
+pub fn check_items(counted: &Counted) -> Result<(), Refusal>
+    ensures { answer_of result ≡ items_refusal counted.now.plant.now }
 {
-    if !numbers_ok(p) {
+    if !counted.numbers_ok() {
         return Err(Refusal::EntryOutOfRange);
     }
-    if !levels_distinct(p) {
+    if !levels_distinct(counted) {
         return Err(Refusal::TanksAtOneLevel);
     }
-    if !requirements_named(p) {
+    if !requirements_named(counted) {
         return Err(Refusal::RequirementNotNamed);
     }
     Ok(())

@@ -7,13 +7,13 @@ use Rattle.refusal.specs.Number.{answer_of}
 use Rattle.checks.proofs.check_lattices.Goals as goal
 
 pub loop-l-init : goal.loop-l-init
-loop-l-init c = first_none c.args.p.now
+loop-l-init c = first_none c.args.counted.now.plant.now
 
 pub loop-l-preserved : goal.loop-l-preserved
 loop-l-preserved c =
     c.lower-outcome.ensures
     ∙ ap (λ (before : ℕ). lower before (answer_of c.check_lattice.result)) c.loop-l.invariant
-    ∙ first_more c.args.p.now c.requires.lattices_fit c.loop-l.l (omega arith) (c.check_lattice.ensures ∙ ap lattice_refusal c.lattice.ensures)
+    ∙ first_more c.args.counted.now.plant.now c.args.counted.now.fits.lattices_fit c.loop-l.l (omega arith) (c.check_lattice.ensures ∙ ap lattice_refusal c.lattice.ensures)
 
 pub returns : goal.returns
-returns c = c.loop-l.invariant ∙ first_all c.args.p.now c.requires.lattices_fit (omega arith) (omega arith)
+returns c = c.loop-l.invariant ∙ first_all c.args.counted.now.plant.now c.args.counted.now.fits.lattices_fit (omega arith) (omega arith)

@@ -12,16 +12,16 @@ loop-o-init c = (taken_none _, all_none _)
 pub returns-then-taken-level : goal.returns-then-taken-level
 unfolding levels_distinct
 returns-then-taken-level c =
-    let there : c.loop-o.o < c.args.p.now.tanks = omega arith in
-    let byte : level_of c.args.p.now c.loop-o.o < 256 = omega arith in
-    all_stops _ _ _ there (is_taken _ _ byte (c.requires.groups_in _ there) c.loop-o.invariant.0 c.from-level.ensures c.from-group.ensures c.if-taken-level.true)
+    let there : c.loop-o.o < c.args.counted.now.plant.now.tanks = omega arith in
+    let byte : level_of c.args.counted.now.plant.now c.loop-o.o < 256 = omega arith in
+    all_stops _ _ _ there (is_taken _ _ byte (c.requires _ there) c.loop-o.invariant.0 c.from-level.ensures c.from-group.ensures c.if-taken-level.true)
 
 pub loop-o-preserved : goal.loop-o-preserved
 loop-o-preserved c =
-    let there : c.loop-o.o < c.args.p.now.tanks = omega arith in
-    let byte : level_of c.args.p.now c.loop-o.o < 256 = omega arith in (
+    let there : c.loop-o.o < c.args.counted.now.plant.now.tanks = omega arith in
+    let byte : level_of c.args.counted.now.plant.now c.loop-o.o < 256 = omega arith in (
       taken_more _ _ c.loop-o.invariant.0 c.from-level.ensures c.from-group.ensures,
-      all_more _ _ c.loop-o.invariant.1 (is_free _ _ byte (c.requires.groups_in _ there) c.loop-o.invariant.0 c.from-level.ensures c.from-group.ensures c.if-taken-level.false),
+      all_more _ _ c.loop-o.invariant.1 (is_free _ _ byte (c.requires _ there) c.loop-o.invariant.0 c.from-level.ensures c.from-group.ensures c.if-taken-level.false),
     )
 
 pub returns : goal.returns
