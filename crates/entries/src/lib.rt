@@ -3,6 +3,7 @@
 // whose invariant is `Fits`. The other clauses stay as they are, but `numbers_ok`, which the check proves alone here, is left with three goals, also with
 // the view rewritten and `links_in` and `front_below` given to the search; and the struct has thirteen lines for three clauses, and each function has to
 // take the plant out of it first.
+// The bound of an index is a clause too: a range makes o, and a type would be made of it and taken apart at each array.
 #![tactic(auto)]
 
 ghost use Rattle.std.specs.Prelude.{◌≡◌, ◌<◌, length};

@@ -14,7 +14,8 @@ use plant::Plant;
 use refusal::Refusal;
 use sets::has;
 
-// 11: no two tanks of one group at one level: each tank in turn finds its place, one for each level and group, free, and takes it.
+// 11: no two tanks of one group at one level: each tank in turn finds its place, one for each level and group, free, and takes it. A loop, since each turn
+// changes `taken`: in the closure of an `.all` its test would be that of a `mem::replace`, which is no plainer.
 fn levels_distinct(p: &Plant) -> bool
     requires fits { Fits p.now }
     requires groups_in { (o : ℕ) → o < p.now.tanks → group_of p.now o < 8 }
