@@ -1,16 +1,19 @@
--- A list in parts of n, as `as_chunks` hands them out: where the elements of part i stand. Assumes nothing.
+-- A list in parts of n, as `as_chunks` hands them out: part i, and where its elements stand. Assumes nothing.
 use Prim.Native.Nat.{ℕ, zero, suc, ◌+◌, ◌*◌, ◌<◌}
 use mathlib.Core.Path.{◌≡◌, ap, ◌∙◌}
 use mathlib.Core.List.{List, []}
 use native.Mathlib.Omega.{arith}
 use native.Mathlib.Nat.{suc-mul}
-use lib.ListN.{get_or, drop}
-use lib.Seq.{get_or-drop, get_or-take}
+use lib.ListN.{get_or, take, drop}
+use lib.Seq.{get_or-drop, get_or-take, drop-drop}
 use Rattle.std.specs.Simd.{first_chunks}
 
+pub chunk_is : (n k : ℕ) (xs : List ℕ) (i : ℕ) → i < k → get_or (first_chunks n k xs) i [] ≡ take n (drop (i * n) xs)
+chunk_is n zero xs i a = absurd (omega arith)
+chunk_is n (suc k) xs zero a = ap (λ (x : ℕ). take n (drop x xs)) (let e : 0 ≡ 0 * n = omega arith in e)
+chunk_is n (suc k) xs (suc i) a =
+    chunk_is n k (drop n xs) i (omega arith) ∙ ap (take n) (drop-drop (i * n) n xs)
+    ∙ ap (λ (x : ℕ). take n (drop x xs)) (let e : n + i * n ≡ suc i * n = omega (arith, suc-mul i n) in e)
+
 pub chunk_at : (n k : ℕ) (xs : List ℕ) (i j : ℕ) → i < k → j < n → get_or (get_or (first_chunks n k xs) i []) j 0 ≡ get_or xs (i * n + j) 0
-chunk_at n zero xs i j a b = absurd (omega arith)
-chunk_at n (suc k) xs zero j a b = get_or-take n xs j 0 b ∙ ap (λ (x : ℕ). get_or xs x 0) (let e : j ≡ 0 * n + j = omega arith in e)
-chunk_at n (suc k) xs (suc i) j a b =
-    chunk_at n k (drop n xs) i j (omega arith) b ∙ get_or-drop n xs (i * n + j) 0
-    ∙ ap (λ (x : ℕ). get_or xs x 0) (let e : n + (i * n + j) ≡ suc i * n + j = omega (arith, suc-mul i n) in e)
+chunk_at n k xs i j a b = rw (chunk_is n k xs i a, get_or-take n (drop (i * n) xs) j 0 b) (get_or-drop (i * n) xs j 0)

@@ -84,7 +84,7 @@ fn place_of<T: Cell>(part: Part, field: Field, k: usize) -> usize
     k / field.run * part.width + (field.from + k % field.run * T::WIDTH)
 }
 
-// A field of the records of a part, with zeros behind it.
+// A field of the records of a part, with zeros behind it. By the cell's number, from which its place follows: `iter_mut().enumerate()` is no plainer.
 pub fn read_cells<T: Cell, const N: usize>(part: Part, field: Field) -> [T; N]
     requires within { field.from + field.run * T.WIDTH ≤ part.width }
     requires room { part.count * field.run ≤ N }

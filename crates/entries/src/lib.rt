@@ -1,4 +1,5 @@
 // Opening's check 10 on a record: the links and the tanks, and with crate tasks all of it.
+// The bound of an index is a clause and no type: a range makes o, and a type would be made of it and taken apart at each array.
 #![tactic(auto)]
 
 ghost use Rattle.std.specs.Prelude.{◌≡◌, ◌<◌, ◌&&◌, true, length};

@@ -12,12 +12,21 @@ pub const HEADER_BYTES: usize = 24;
 
 const FILE_LIMIT: usize = 4096;
 
-// Where the header has the counts, the offsets and the file's length.
+const EDITION: u8 = 1;
+
+// Where the header has the edition, the counts, the offsets and the file's length.
+const EDITION_AT: usize = 0;
+
 const COUNTS_AT: usize = 1;
 
 const OFFSETS_AT: usize = 8;
 
 const LENGTH_AT: usize = 20;
+
+// The bytes that are always zero: one behind the counts, two behind the length.
+const BEHIND_COUNTS: usize = 7;
+
+const BEHIND_LENGTH: usize = 22;
 
 // Bytes of a record, by section: the form that 01 names for the widths. Edition 2 adds a second row.
 const WIDTHS: [usize; 6] = [34, 2, 2, 2, 10, 2];
@@ -72,18 +81,11 @@ pub struct Header<'a> {
 }
 
 impl<'a> Header<'a> {
-    // How many records a section has, as the header's byte, which the plant's record has too.
-    pub fn count_byte(self, section: Section) -> u8
+    // How many records a section has.
+    pub fn count(self, section: Section) -> u8
         ensures { result ≡ count self.entry.file.now (section_number section) }
     {
         self.file[COUNTS_AT + usize::from(section)]
-    }
-
-    // How many records a section has, as a number to count with.
-    pub fn count(self, section: Section) -> usize
-        ensures { (result ≡ count self.entry.file.now (section_number section)) × (result < 256) }
-    {
-        usize::from(self.count_byte(section))
     }
 
     // Where a section begins.
@@ -97,7 +99,7 @@ impl<'a> Header<'a> {
     pub fn end(self, section: Section) -> usize
         ensures { result ≡ end self.entry.file.now (section_number section) }
     {
-        self.offset(section) + self.count(section) * width_of(section)
+        self.offset(section) + usize::from(self.count(section)) * width_of(section)
     }
 
     // 2: the edition.
@@ -105,16 +107,14 @@ impl<'a> Header<'a> {
     pub fn edition_ok(self) -> bool
         ensures { result ≡ edition_ok self.entry.file.now }
     {
-        self.file[0] == 1
+        self.file[EDITION_AT] == EDITION
     }
 
     // 3: the counts.
     pub fn counts_ok(self) -> bool
         ensures { result ≡ counts_ok self.entry.file.now }
     {
-        Section::ALL
-            .iter()
-            .all(|section| count_ok(*section, self.count(*section)))
+        Section::ALL.iter().all(|section| count_ok(*section, usize::from(self.count(*section))))
     }
 
     // 4: the bytes that are always zero.
@@ -122,6 +122,8 @@ impl<'a> Header<'a> {
     pub fn zeros_ok(self) -> bool
         ensures { result ≡ zeros_ok self.entry.file.now }
     {
-        self.file[7] == 0 && self.file[22] == 0 && self.file[23] == 0
+        self.file[BEHIND_COUNTS] == 0
+            && self.file[BEHIND_LENGTH] == 0
+            && self.file[BEHIND_LENGTH + 1] == 0
     }
 }

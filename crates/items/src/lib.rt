@@ -13,7 +13,8 @@ use plant::Plant;
 use refusal::Refusal;
 use sets::has;
 
-// 11: no two tanks of one group at one level: each tank in turn finds its place, one for each level and group, free, and takes it.
+// 11: no two tanks of one group at one level: each tank in turn finds its place, one for each level and group, free, and takes it. A loop, since each turn
+// changes `taken`: in the closure of an `.all` its test would be that of a `mem::replace`, which is no plainer.
 fn levels_distinct(counted: &Counted) -> bool
     requires { let p = counted.now.plant.now in (o : ℕ) → o < p.tanks → group_of p o < 8 }
     ensures { result ≡ levels_distinct counted.now.plant.now }

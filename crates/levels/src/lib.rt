@@ -1,4 +1,5 @@
 // The test of a lattice record: check 7, and with crates above and joins the number that refuses it.
+// The bound of an index is a clause and no type: a type would be made of a number at each turn and taken apart at the array.
 #![tactic(auto)]
 
 ghost use Rattle.std.specs.Prelude.{◌≡◌, ◌<◌, ◌≤◌};
@@ -18,11 +19,7 @@ fn set_clear(lattice: &Lattice, i: usize) -> bool
     ensures { result ≡ set_clear lattice.now i }
 {
     let x = lattice.sets[i];
-    if i < usize::from(lattice.n) {
-        none_from(x, lattice.n)
-    } else {
-        x == 0
-    }
+    none_from(x, lattice.n) && (i < usize::from(lattice.n) || x == 0)
 }
 
 fn sets_clear(lattice: &Lattice) -> bool

@@ -21,7 +21,7 @@ pub struct Places<'a> {
     pub ghost known: { (g : ℕ) → g < 8 → PlacesOf plant.now g (get_or at_group g 0) },
 }
 
-// The levels at which each group has a tank.
+// The levels at which each group has a tank. By the tank's number, at which two arrays are read: a `zip` of the two, cut to the count, is no plainer.
 fn places_of(p: &Plant) -> [u16; 8]
     requires { TanksThere p.now }
     ensures { (g : ℕ) → g < 8 → PlacesOf p.now g (get_or result g 0) }

@@ -94,7 +94,7 @@ impl<'a> PlantFile<'a> {
         Part {
             bytes: &self.header.file[begin..begin + length],
             width: width_of(section),
-            count: self.header.count(section),
+            count: usize::from(self.header.count(section)),
         }
     }
 }

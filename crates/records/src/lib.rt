@@ -10,7 +10,8 @@ use parts::PlantFile;
 use plant::Plant;
 use std::marker::PhantomData;
 
-// The fields of each section's records. Each name begins with the record.
+// The fields of each section's records. Each name begins with the record. Written out nine times: a constant cannot call a function, so that a macro alone
+// would be shorter.
 const LATTICE_SIZE: SectionField<u8> = SectionField {
     section: Section::Lattices,
     field: Field { from: 0, run: 1 },
@@ -70,12 +71,12 @@ pub fn plant_from(file: PlantFile) -> Plant
     ensures { result ≡ plant_of file.entry.header.file.now }
 {
     Plant {
-        lattices: file.header.count_byte(Section::Lattices),
-        requirements: file.header.count_byte(Section::Requirements),
-        groups: file.header.count_byte(Section::Groups),
-        tanks: file.header.count_byte(Section::Tanks),
-        tasks: file.header.count_byte(Section::Tasks),
-        skids: file.header.count_byte(Section::Skids),
+        lattices: file.header.count(Section::Lattices),
+        requirements: file.header.count(Section::Requirements),
+        groups: file.header.count(Section::Groups),
+        tanks: file.header.count(Section::Tanks),
+        tasks: file.header.count(Section::Tasks),
+        skids: file.header.count(Section::Skids),
         lattice_sizes: read_field(file, LATTICE_SIZE),
         lattice_sets: read_field(file, LATTICE_SETS),
         requirement_lattice: read_field(file, REQUIREMENT_LATTICE),

@@ -1,5 +1,5 @@
-// Sets of numbers under sixteen, a bit each. A set is a bare `u16`, as the plant's record has it, which C reads, and as a plant file has it: a type of its
-// own would be made of a number at each array of the record and taken apart there.
+// Sets of numbers under sixteen, a bit each. A set is a bare `u16`, as a plant file has it. The arrays of the plant's record could hold a type of its own in
+// the layout that C reads; but the definitions of the rules speak of lists of numbers, and each list of sets would become one of records.
 // The bound of an index is a clause and no type: a type would be made of a number at each call and taken apart at each array.
 #![tactic(auto)]
 
@@ -26,6 +26,7 @@ pub fn none_from(x: u16, n: u8) -> bool
 }
 
 // The set x with the number i in it. Sets of levels and sets of groups are the bits of a number.
+#[tactic(auto, using(crate::proofs::Single::with_one_lem))]
 pub fn with_one(x: u16, i: usize) -> u16
     requires { i < 16 }
     ensures { (k : ℕ) → bit result k ≡ bit x k || eqb i k }
@@ -34,6 +35,7 @@ pub fn with_one(x: u16, i: usize) -> u16
 }
 
 // The set x without the number i.
+#[tactic(auto, using(crate::proofs::Single::without_one_lem))]
 pub fn without_one(x: u16, i: usize) -> u16
     requires { i < 16 }
     ensures { (k : ℕ) → bit result k ≡ bit x k && not (eqb i k) }
@@ -42,6 +44,7 @@ pub fn without_one(x: u16, i: usize) -> u16
 }
 
 // The set x without the numbers of y.
+#[tactic(auto, using(crate::proofs::Single::without_set_lem))]
 pub fn without_set(x: u16, y: u16) -> u16
     ensures { (k : ℕ) → bit result k ≡ bit x k && not (bit y k) }
 {

@@ -1,12 +1,9 @@
--- The counts are within the record's room once check 3 has passed.
-use Rattle.std.proofs.Common.{sym, ap, ◌∙◌}
+-- The number of a lattice that is refused is that of the plant.
+use Rattle.std.proofs.Common.{ap, ◌∙◌}
 use mathlib.Core.Bool.{not}
-use Rattle.plant.proofs.Sequence.{fits, refused_lattice}
+use Rattle.plant.proofs.Sequence.{refused_lattice}
 use Rattle.refusal.proofs.NotZero.{handed_on, not_0}
 use Rattle.checks.proofs.check_plant.Goals as goal
-
-pub invariant_of-counted : goal.invariant_of-counted
-invariant_of-counted c = record { fits = fits _ (sym c.counts_in.ensures ∙ c.if-not-counts_in.false) }
 
 pub returns-in_err-check_lattices : goal.returns-in_err-check_lattices
 returns-in_err-check_lattices c =
