@@ -3,13 +3,12 @@ use mathlib.Core.Path.{◌≡◌, sym, ap, ap₂, ◌∙◌}
 use Prim.Native.Nat.{ℕ, ◌+◌, ◌*◌, ◌<◌}
 use native.Mathlib.Omega.{arith}
 use mathlib.Core.Bool.{Bool, true, false, ◌&&◌, ◌||◌}
-use mathlib.Core.List.{List}
 use lib.Dec.{eqb}
-use lib.ListN.{get_or, replicate, length-replicate, get_or-replicate}
+use lib.ListN.{get_or, replicate, length-replicate}
 use borrow.Author.Tests.{lt-ltb, eq-eqb, ne_eqb}
 use Rattle.base.specs.Below.{all_below}
 use Rattle.base.proofs.Below.{all_yes, all_at, all_same}
-use Rattle.base.proofs.Filled.{fill_at, fill_past}
+use Rattle.base.proofs.Filled.{fill_at}
 use Rattle.base.proofs.Logic.{split, same_test, and_true, and_intro}
 use Rattle.plant.specs.declared.Plant.{Plant}
 use Rattle.plant.specs.Plant.{lattice_of, rights_of}
@@ -21,11 +20,7 @@ use Rattle.choice.specs.Choice.{unset}
 use Rattle.rules.specs.declared.Monitor.{Monitor}
 use Rattle.rules.specs.Intact.{level_ok, task_ok, tank_ok, intact_view, intact_views}
 use Rattle.rules.specs.Record.{view_of, intact}
-use Rattle.test20.specs.Raw.{levels_of_requirement, levels_by_requirement, most, Free, row_level_in, task_levels_in, skid_levels_in, task_in, chosen_in, skid_runs_in, parts_in}
-
--- past the requirements every level passes
-pub most_free : (sizes lattice : List ℕ) (requirements : ℕ) → Free (levels_by_requirement sizes lattice requirements) requirements
-most_free sizes lattice requirements d h l = fill_past (levels_of_requirement sizes lattice) (replicate 8 255) requirements d 0 h ∙ get_or-replicate 8 d 255 0 l
+use Rattle.test20.specs.Raw.{levels_of_requirement, most, row_level_in, task_levels_in, skid_levels_in, task_in, chosen_in, skid_runs_in, parts_in}
 
 -- two tests of each index, asked one after the other or at once
 all_both : (n : ℕ) (p q : ℕ → Bool) → all_below (λ i. p i && q i) n ≡ all_below p n && all_below q n
