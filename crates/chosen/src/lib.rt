@@ -11,7 +11,7 @@ ghost use Rattle.calls.specs.Work.{wish_in, NeedOf, Needed, Reached, RowDone};
 
 use plant::Plant;
 use refusal::Refusal;
-use rules::Monitor;
+use rules::{Monitor, NONE};
 use sets::{Members, with_one};
 
 // The groups on which task t names a right, as a set. It is not inlined: a list calls it once for each task, and its loop would take registers from
@@ -51,13 +51,12 @@ pub fn level_for(m: &Monitor, s: usize, t: usize, g: usize) -> Option<usize>
     ensures { result ≡ if_set (wish_in m.now.plant.group_requirement m.now.levels s t g) }
 {
     let d = usize::from(m.plant.group_requirement[g]);
-    let v = m.level(s, t, d);
-    if v == 255 { None } else { Some(usize::from(v)) }
+    m.level(s, t, d).map(usize::from)
 }
 
-// The skid's row of choices for the groups of the set `need`; the others have 255, as the record does, which C reads. A level that is not set in any
-// group comes before a tank that is missing in any, so that the first alone ends the loop. It goes from group to group of the set, since which groups
-// a task needs cannot be predicted.
+// The skid's row of choices for the groups of the set `need`; the others have `NONE`, as the record does, which C reads. A level that is not set in
+// any group comes before a tank that is missing in any, so that the first alone ends the loop. It goes from group to group of the set, since which
+// groups a task needs cannot be predicted.
 pub fn choose_row(
     m: &Monitor,
     made: &[[Option<u8>; 16]; 8],
@@ -69,7 +68,7 @@ pub fn choose_row(
     requires reached { Reached m.now.plant.group_requirement m.now.levels s t need }
     ensures { RowDone (made_at made.now) m.now.plant.group_requirement m.now.levels s t (bit need) 8 result }
 {
-    let mut row = [255u8; 8];
+    let mut row = [NONE; 8];
     let mut lacking = false;
     for g in Members::of(need) {
         let Some(v) = level_for(m, s, t, g) else {

@@ -1,46 +1,29 @@
 // The monitor of a plant with nothing set, running or chosen, and the record of zeros that a refused opening hands back.
 #![tactic(auto)]
 
-ghost use Rattle.std.specs.Prelude.{◌≡◌, replicate};
-ghost use Rattle.plant.specs.Plant.{no_plant};
-ghost use Rattle.rules.specs.Record.{record_of, fresh};
+ghost use Rattle.std.specs.Prelude.{◌≡◌};
+ghost use Rattle.rules.specs.Record.{fresh};
 ghost use Rattle.test20.specs.Zeros.{zero_monitor};
 
 use plant::Plant;
-use rules::Monitor;
+use rules::{Monitor, NONE};
 
-// The byte that stands for no level, task or tank: unset, or none.
-const NONE: u8 = 255;
-
-// Every changing part holds the same byte.
-fn monitor_with(plant: Plant, byte: u8) -> Monitor
-    ensures { result ≡ record_of plant (replicate 1024 byte) (replicate 8 byte) (replicate 64 byte) }
-{
-    Monitor {
-        plant,
-        levels: [byte; 1024],
-        running: [byte; 8],
-        chosen: [byte; 64],
-    }
-}
-
+#[tactic(auto, unfolding(rules::specs::Record::fresh))]
 pub fn fresh_monitor(plant: Plant) -> Monitor
     ensures { result ≡ fresh plant }
 {
-    monitor_with(plant, NONE)
+    Monitor {
+        plant,
+        levels: [NONE; 1024],
+        running: [NONE; 8],
+        chosen: [NONE; 64],
+    }
 }
 
-// Each count is 0, which is out of its range.
-#[tactic(auto, using(plant::proofs::Zeros::is_no_plant))]
-fn no_plant() -> Plant
-    ensures { result ≡ no_plant }
-{
-    Plant::default()
-}
-
-// 20 refuses it, since its counts are out of range.
+// Each count is 0, which is out of its range, so that 20 refuses it.
+#[tactic(auto, using(crate::proofs::Zeros::is_zero_monitor))]
 pub fn zero_monitor() -> Monitor
     ensures { result ≡ zero_monitor }
 {
-    monitor_with(no_plant(), 0)
+    Monitor::default()
 }

@@ -52,8 +52,8 @@ pub fn gate_granted(
 
 // Whether skid s holds right r on tank o, by the rights granted. Both halves are read without a branch, since the processor cannot predict the
 // answer; they stand at one place, which `Monitor::tank` would work out again. `is_held` reads four arrays where this reads two, in steps that it
-// may leave, so that the two share no line but the comparison. One reading of the record for both takes each gate of a list seven instructions more,
-// where a mixed request of a batch is less than one under its bar.
+// may leave, so that the two share no line but the comparison. One reading of the record for both takes each gate of a list seven instructions more;
+// as more than half of a mixed list are gates, a mixed request of a batch would take more than the baseline, its bar.
 fn is_granted(m: &Monitor, granted: &[u8; 64], s: usize, o: u8, r: u8) -> bool
     requires s_bound { (s < 8) × (o < 64) }
     requires o_bound { get_or m.now.plant.tank_group o 0 < 8 }
@@ -71,10 +71,9 @@ pub fn is_held(m: &Monitor, s: usize, o: u8, r: u8) -> bool
     requires o_bound { (get_or m.now.plant.tank_group o 0 < 8) × (task_known m.now.running s ≡ true) }
     ensures { result ≡ held_in m.now.plant.tank_group m.now.plant.task_rights m.now.running m.now.chosen s o r }
 {
-    let t = m.running[s];
-    if t == 255 {
+    let Some(t) = m.task(s) else {
         return false;
-    }
+    };
     let g = usize::from(m.plant.tank_group[usize::from(o)]);
     let x = m.plant.rights_of(usize::from(t), g);
     if x & Right::mask(r) == 0 {

@@ -9,10 +9,10 @@ use Rattle.std.specs.Array.{AllOfLen}
 use Rattle.plant.specs.declared.Plant.{Plant}
 use Rattle.plant.specs.Plant.{no_plant}
 
-abbrev Zeros : List ℕ → ℕ → Type 0
+abbrev pub Zeros : List ℕ → ℕ → Type 0
 Zeros xs n = AllOfLen (λ (x : ℕ). x ≡ 0) xs n
 
-zeros : {n : ℕ} {xs : List ℕ} → Zeros xs n → xs ≡ replicate n 0
+pub zeros : {n : ℕ} {xs : List ℕ} → Zeros xs n → xs ≡ replicate n 0
 zeros {n} {xs} h =
     ext_get_or 0 xs (replicate n 0) (h.long ∙ sym (length-replicate {A = ℕ} n 0))
     (λ i l. let there : i < n = omega (arith, h.long) in h.at i 0 there ∙ sym (get_or-replicate {A = ℕ} n i 0 0 there))

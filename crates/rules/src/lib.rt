@@ -4,14 +4,18 @@
 #![tactic(auto)]
 
 ghost use Rattle.std.specs.Prelude.{◌≡◌, true, ◌<◌, get_or, slice_set};
+ghost use Rattle.choice.specs.Choice.{if_set};
 ghost use Rattle.rules.specs.Record.{level_at, chosen_at, with_levels, Sized, intact};
 
 use plant::Plant;
 
+// The byte that stands for no level, task or tank: unset, or none. C has the same (PERMITS_NONE, include/permits.h).
+pub const NONE: u8 = 255;
+
 // The plant and three changing parts: a level for each skid, task and requirement at (s * 16 + t) * 8 + d, a running task for each skid,
-// and a chosen tank for each skid and group at s * 8 + g. 255 is unset and none.
+// and a chosen tank for each skid and group at s * 8 + g. A byte is `NONE` where there is no level, task or tank.
 #[repr(C)]
-#[derive(Clone, Copy)]
+#[derive(Clone, Copy, Default)]
 pub struct Monitor {
     pub plant: Plant,
     pub levels: [u8; 1024],
@@ -27,13 +31,20 @@ fn level_at(s: usize, t: usize, d: usize) -> usize
     (s * 16 + t) * 8 + d
 }
 
+// A byte of the record as an option.
+fn if_set(x: u8) -> Option<u8>
+    ensures { result ≡ if_set x }
+{
+    if x == NONE { None } else { Some(x) }
+}
+
 impl Monitor {
-    // The level of skid s in task t for requirement d.
-    pub fn level(&self, s: usize, t: usize, d: usize) -> u8
+    // The level of skid s in task t for requirement d, if it is set.
+    pub fn level(&self, s: usize, t: usize, d: usize) -> Option<u8>
         requires { (s < 8) × (t < 16) × (d < 8) }
-        ensures { result ≡ get_or self.now.levels (level_at s t d) 0 }
+        ensures { result ≡ if_set (get_or self.now.levels (level_at s t d) 0) }
     {
-        self.levels[level_at(s, t, d)]
+        if_set(self.levels[level_at(s, t, d)])
     }
 
     pub fn put_level(&mut self, s: usize, t: usize, d: usize, v: u8)
@@ -41,6 +52,14 @@ impl Monitor {
         ensures { self.new ≡ with_levels self.old (slice_set self.old.levels (level_at s t d) v) }
     {
         self.levels[level_at(s, t, d)] = v;
+    }
+
+    // The task that skid s runs, if it runs one.
+    pub fn task(&self, s: usize) -> Option<u8>
+        requires { s < 8 }
+        ensures { result ≡ if_set (get_or self.now.running s 0) }
+    {
+        if_set(self.running[s])
     }
 
     // The tank chosen for skid s from group g.

@@ -22,7 +22,7 @@ fn task_ok(p: &Plant, t: u8, s: usize) -> bool
     t < p.tasks && has(p.skid_tasks[s], usize::from(t))
 }
 
-// Where the running task has no right, any byte passes as the chosen tank; 255 too.
+// Where the running task has no right, any byte passes as the chosen tank, `NONE` too.
 fn tank_ok(p: &Plant, right: u8, o: u8, g: usize) -> bool
     requires { p.now.tanks ≤ 64 }
     ensures { result ≡ tank_in p.now.tank_group p.now.tanks right o g }
@@ -38,13 +38,15 @@ fn tanks_ok(m: &Monitor, t: usize, s: usize) -> bool
     (0..usize::from(p.groups)).all(|g| tank_ok(p, p.rights_of(t, g), m.tank(s, g), g))
 }
 
-// What skid s runs, with its chosen tanks. 255 is no task and names no rights, so it is asked first.
+// What skid s runs, with its chosen tanks.
 fn skid_runs_ok(m: &Monitor, s: usize) -> bool
     requires { (Fits m.now.plant) × (s < 8) }
     ensures { result ≡ skid_runs_in m.now.plant m.now.running m.now.chosen s }
 {
-    let t = m.running[s];
-    t == 255 || (task_ok(&m.plant, t, s) && tanks_ok(m, usize::from(t), s))
+    match m.task(s) {
+        None => true,
+        Some(t) => task_ok(&m.plant, t, s) && tanks_ok(m, usize::from(t), s),
+    }
 }
 
 pub fn runs_ok(m: &Monitor) -> bool

@@ -31,14 +31,14 @@ pub fn start_early(m: &Monitor, s: u8, t: u8) -> Result<(), Refusal>
     if !has(m.plant.skid_tasks[usize::from(s)], usize::from(t)) {
         return Err(Refusal::MayNotRun);
     }
-    if m.running[usize::from(s)] != 255 {
+    if m.task(usize::from(s)).is_some() {
         return Err(Refusal::AlreadyRuns);
     }
     Ok(())
 }
 
 // The rest of a start, whose choices are looked up in `made` and whose groups are the set `need`: 27, 28, or the task runs and its groups get their
-// choice, the skid's other groups 255.
+// choice, the skid's other groups `NONE`.
 pub fn start_late(
     m: &mut Monitor,
     made: &[[Option<u8>; 16]; 8],

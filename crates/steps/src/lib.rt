@@ -12,7 +12,7 @@ ghost use Rattle.calls.specs.Work.{rights_in, get_row};
 use calls::check_present;
 use plant::Plant;
 use refusal::Refusal;
-use rules::Tested;
+use rules::{NONE, Tested};
 
 // Set: 21 to 24, or the level is stored.
 pub fn set_at(tested: &mut Tested, s: u8, t: u8, d: u8, v: u8) -> Result<(), Refusal>
@@ -55,7 +55,7 @@ pub fn stop_at(tested: &mut Tested, s: u8) -> Result<(), Refusal>
     if m.plant.skids <= s {
         return Err(Refusal::NoSuchSkid);
     }
-    m.running[usize::from(s)] = 255;
-    put_row(&mut m.chosen, usize::from(s), &[255; 8]);
+    m.running[usize::from(s)] = NONE;
+    put_row(&mut m.chosen, usize::from(s), &[NONE; 8]);
     Ok(())
 }

@@ -1,14 +1,13 @@
 -- Test 20 on the record's flat lists, in the order in which the code reads them. proofs/Views has that within the counts this is the test
 -- of each skid's view.
-use Rattle.std.specs.Prelude.{◌≡◌, ℕ, ◌+◌, ◌*◌, ◌≤◌, ◌<◌, Bool, ◌&&◌, ◌||◌, List, eqb, ltb, get_or, replicate}
+use Rattle.std.specs.Prelude.{ℕ, ◌+◌, ◌*◌, Bool, ◌&&◌, ◌||◌, List, eqb, ltb, get_or, replicate}
 use Rattle.base.specs.Below.{all_below}
 use Rattle.base.specs.Bits.{bit}
 use Rattle.base.specs.Fill.{fill}
 use Rattle.plant.specs.declared.Plant.{Plant}
 use Rattle.choice.specs.Choice.{unset}
 
--- How many levels requirement d has, and the list of these. Past the count it has 255, which every level passes, so that a row is tested to
--- its end.
+-- How many levels requirement d has, and the list of these, which has 255 past the count.
 abbrev pub levels_of_requirement : List ℕ → List ℕ → ℕ → ℕ
 levels_of_requirement sizes lattice d = get_or sizes (get_or lattice d 0) 0
 
@@ -17,10 +16,6 @@ levels_by_requirement sizes lattice requirements = fill (levels_of_requirement s
 
 abbrev pub most : Plant → List ℕ
 most p = levels_by_requirement p.lattice_sizes p.requirement_lattice p.requirements
-
--- xs has 255 past the requirements
-abbrev pub Free : List ℕ → ℕ → Type 0
-Free xs requirements = (d : ℕ) → requirements ≤ d → d < 8 → get_or xs d 0 ≡ 255
 
 -- level v is unset or one of n levels
 abbrev pub level_in : ℕ → ℕ → Bool

@@ -1,9 +1,8 @@
--- Past the requirements the list is as it began.
-use Rattle.std.proofs.Common.{◌∙◌, arith, replicate}
-use lib.ListN.{get_or-replicate}
-use Rattle.base.proofs.Filled.{fill_past}
+-- Each requirement of the plant has how many levels its lattice has, and the others 255.
+use Rattle.std.proofs.Common.{rules, tests}
+use Rattle.base.proofs.FromFn.{made_front}
 use Rattle.plant.specs.Plant.{levels_of}
 use Rattle.stored.proofs.levels_by_requirement.Goals as goal
 
-pub returns-clause-past : goal.returns-clause-past
-returns-clause-past c = λ d h l. rw c.loop-d.invariant (fill_past (levels_of c.args.p.now) (replicate 8 255) c.loop-d.d d 0 (omega arith) ∙ get_or-replicate 8 d 255 0 l)
+pub returns : goal.returns
+returns c = made_front (levels_of c.args.p.now) 255 8 c.args.p.now.requirements c.requires.count_in c.from_fn.ensures.items (λ d y q k. search (rules, tests))
