@@ -1,6 +1,5 @@
 // The running tasks of a monitor's record and their chosen tanks: whether each skid may run its task, and each tank is one of its group.
-// That the counts are within the record (`Fits`) is a clause: the functions are lent the monitor whole, and a struct round its plant would be a second
-// parameter beside it. `task_ok` and `tank_ok` ask the bound of their one count and no more.
+// `task_ok` and `tank_ok` ask the bound of their one count and no more.
 // The bounds of s, t and g are clauses and no types: s goes through three functions as it is, and each reads an array at it, so that a type would be
 // taken apart in each.
 #![tactic(auto)]
@@ -30,22 +29,33 @@ fn tank_ok(p: &Plant, right: u8, o: u8, g: usize) -> bool
     right == 0 || (o < p.tanks && usize::from(p.tank_group[usize::from(o)]) == g)
 }
 
-fn tanks_ok(m: &Monitor, t: usize, s: usize) -> bool
-    requires { (Fits m.now.plant) × ((t < 16) × (s < 8)) }
-    ensures { result ≡ all_below (chosen_in m.now.plant.task_rights m.now.plant.tank_group m.now.chosen m.now.plant.tanks t s) m.now.plant.groups }
-{
-    let p = &m.plant;
-    (0..usize::from(p.groups)).all(|g| tank_ok(p, p.rights_of(t, g), m.tank(s, g), g))
+// A record whose plant has its counts within its record.
+#[derive(Clone, Copy)]
+struct Counted<'a> {
+    monitor: &'a Monitor,
+    ghost fits: { Fits monitor.now.plant },
 }
 
-// What skid s runs, with its chosen tanks.
-fn skid_runs_ok(m: &Monitor, s: usize) -> bool
-    requires { (Fits m.now.plant) × (s < 8) }
-    ensures { result ≡ skid_runs_in m.now.plant m.now.running m.now.chosen s }
-{
-    match m.task(s) {
-        None => true,
-        Some(t) => task_ok(&m.plant, t, s) && tanks_ok(m, usize::from(t), s),
+impl<'a> Counted<'a> {
+    fn tanks_ok(&self, t: usize, s: usize) -> bool
+        requires { (t < 16) × (s < 8) }
+        ensures { let m = self.now.monitor.now in result ≡ all_below (chosen_in m.plant.task_rights m.plant.tank_group m.chosen m.plant.tanks t s) m.plant.groups }
+    {
+        let m = self.monitor;
+        let p = &m.plant;
+        (0..usize::from(p.groups)).all(|g| tank_ok(p, p.rights_of(t, g), m.tank(s, g), g))
+    }
+
+    // What skid s runs, with its chosen tanks.
+    fn skid_runs_ok(&self, s: usize) -> bool
+        requires { s < 8 }
+        ensures { let m = self.now.monitor.now in result ≡ skid_runs_in m.plant m.running m.chosen s }
+    {
+        let m = self.monitor;
+        match m.task(s) {
+            None => true,
+            Some(t) => task_ok(&m.plant, t, s) && self.tanks_ok(usize::from(t), s),
+        }
     }
 }
 
@@ -53,5 +63,6 @@ pub fn runs_ok(m: &Monitor) -> bool
     requires { Fits m.now.plant }
     ensures { result ≡ all_below (skid_runs_in m.now.plant m.now.running m.now.chosen) m.now.plant.skids }
 {
-    (0..usize::from(m.plant.skids)).all(|s| skid_runs_ok(m, s))
+    let counted = Counted { monitor: m };
+    (0..usize::from(m.plant.skids)).all(|s| counted.skid_runs_ok(s))
 }
