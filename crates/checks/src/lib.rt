@@ -33,7 +33,8 @@ fn lower(a: Result<(), Refusal>, b: Result<(), Refusal>) -> Result<(), Refusal>
     }
 }
 
-// 7 to 9, of all lattices: 8 of one comes before 9 of another.
+// 7 to 9, of all lattices: 8 of one comes before 9 of another. A loop: by `.fold(..)` it was proved too, but that proof wants laws of the range and of the
+// closure's calls beside those of the lattices, and is longer than the loop's.
 fn check_lattices(counted: &Counted) -> Result<(), Refusal>
     ensures { answer_of result ≡ lattices_refusal counted.now.plant.now }
 {
