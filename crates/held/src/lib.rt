@@ -45,7 +45,7 @@ impl<'a> Held<'a> {
         requires room { Room (tank_bytes_in self.now.monitor.now s o) list.old }
         ensures { Writes (tank_bytes_in self.now.monitor.now s o) list.old list.new }
     {
-        for r in Right::ALL {
+        for r in Right::all() {
             self.write_right(list, s, o, r);
         }
     }
