@@ -38,7 +38,8 @@ fn print_batch(plant: &[u8], requests: &[u8], text: &mut Writer)
 // The plant, as long as its header says, and the requests behind it; none where the header or the plant is not all there.
 fn plant_and_requests(input: &[u8]) -> Option<(&[u8], &[u8])>
     requires { length input.now ≤ 65536 }
-    ensures { MatchOption result (printed input.now ≡ refusal_line 1) (λ parts. printed input.now ≡ batch_lines parts.0.now parts.1.now) }
+    ensures { MatchOption result (printed input.now ≡ refusal_line 1)
+        (λ parts. (printed input.now ≡ batch_lines parts.0.now parts.1.now) × (length parts.1.now ≤ 65536)) }
 {
     if input.len() < HEADER_BYTES {
         return None;

@@ -5,8 +5,8 @@ use Rattle.printing.proofs.Printed.{long_lines}
 use Rattle.writer.proofs.Written.{writes_as}
 use Rattle.session.proofs.print_session.Goals as goal
 
-pub returns-then-input-gtLONGEST : goal.returns-then-input-gtLONGEST
-returns-then-input-gtLONGEST c = writes_as (sym (long_lines c.args.input.now c.if-input-gtLONGEST.true)) c.word.ensures
+pub returns-then-input-gt-LONGEST : goal.returns-then-input-gt-LONGEST
+returns-then-input-gt-LONGEST c = writes_as (sym (long_lines c.args.input.now c.if-input-gt-LONGEST.true)) c.word.ensures
 
 pub put_refusal-requires : goal.put_refusal-requires
 put_refusal-requires c = rw c.from.ensures (record { fits = omega (arith, refusal_short 1 (lit< tt)) })
@@ -15,4 +15,4 @@ pub returns-in-None : goal.returns-in-None
 returns-in-None c = writes_as (sym c.in-None.ensures) (rw c.from.ensures at c.put_refusal.ensures)
 
 pub returns-in-Some : goal.returns-in-Some
-returns-in-Some c = writes_as (sym c.in-Some.ensures) c.print_batch.ensures
+returns-in-Some c = writes_as (sym c.in-Some.ensures.0) c.print_batch.ensures
