@@ -2,14 +2,14 @@
 // The bound of an index is a clause and no type: a type would be made of a number at each call and taken apart at each array.
 #![tactic(auto)]
 
-ghost use Rattle.std.specs.Prelude.{◌≡◌, ℕ, true, ◌<◌, ◌≤◌};
+ghost use Rattle.std.specs.Prelude.{◌≡◌, get_or, ℕ, ◌^◌, true, ◌<◌, ◌≤◌};
 ghost use Rattle.base.specs.Below.{all_below};
 ghost use Rattle.base.specs.Bits.{bit};
-ghost use Rattle.lattice.specs.Sets.{under_in, OrderedSets, Turned, numbers_to, upper_row, marked};
+ghost use Rattle.lattice.specs.Sets.{under_in, OrderedSets, Turned, added, turned_sets, numbers_to, upper_row, marked};
 ghost use Rattle.lattice.specs.Table.{join_row};
 
 use lattice::Lattice;
-use sets::{Members, byte_where, has, with_one};
+use sets::{Members, byte_where, has};
 use std::array;
 
 // Levels in order: bit j of above[i] where level j is at or above level i, and bit j of under[i] where it is at or under it. `numbers` are the entries
@@ -25,25 +25,26 @@ pub struct Levels {
     pub ghost numbered: { numbers ≡ numbers_to count },
 }
 
-// The levels in whose sets level j is.
-fn turned_set(s: &[u16; 16], j: usize) -> u16
-    requires { j < 16 }
-    ensures { (k : ℕ) → bit result k ≡ under_in s.now k j }
+// Level i, whose set is x, goes into the turned sets of the levels of x.
+#[tactic(auto, using(base::proofs::Filled::filled))]
+fn add_level(t: &mut [u16; 16], x: u16, i: usize)
+    requires { (i < 16) × ((j : ℕ) → j < 16 → get_or t.old j 0 < 2 ^ i) }
+    ensures { t.new ≡ added t.old x i }
 {
-    let mut set = 0;
-    for (i, x) in s.iter().enumerate() {
-        if has(*x, j) {
-            set = with_one(set, i);
-        }
+    for (j, set) in t.iter_mut().enumerate() {
+        *set += u16::from(has(x, j)) << i;
     }
-    set
 }
 
 // The sets of the turned order, in which a join is a meet of the given one.
 fn turned_sets(s: &[u16; 16]) -> [u16; 16]
-    ensures { (j k : ℕ) → j < 16 → under_in result j k ≡ under_in s.now k j }
+    ensures { result ≡ turned_sets s.now }
 {
-    array::from_fn(|j| turned_set(s, j))
+    let mut t = [0u16; 16];
+    for (i, x) in s.iter().enumerate() {
+        add_level(&mut t, *x, i);
+    }
+    t
 }
 
 // The set x has n levels, the lowest numbers, and no other: so each of them is in it.
@@ -82,6 +83,7 @@ impl Levels {
         requires { OrderedSets lattice.now.n lattice.now.sets }
         ensures count { result.count ≡ lattice.now.n }
         ensures above { result.above ≡ lattice.now.sets }
+        ensures under { result.under ≡ turned_sets lattice.now.sets }
         ensures under_ordered { OrderedSets result.count result.under }
     {
         let count = usize::from(lattice.n);

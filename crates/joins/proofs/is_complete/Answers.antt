@@ -2,7 +2,7 @@
 use Rattle.std.proofs.Common.{◌≡◌, ◌≤◌, List, ℕ, Bool, ◌∙◌}
 use Rattle.base.proofs.Both.{both_on, both_off}
 use Rattle.lattice.specs.Levels.{joined, complete}
-use Rattle.lattice.specs.Sets.{under_in, Turned}
+use Rattle.lattice.specs.Sets.{under_in}
 use Rattle.lattice.specs.Table.{join_table, table_full}
 use Rattle.lattice.proofs.Meets.{turned_joined}
 use Rattle.lattice.proofs.Tables.{table_joined}
@@ -16,15 +16,14 @@ pub returns-then-is_full : goal.returns-then-is_full
 unfolding complete
 returns-then-is_full c =
     let l = c.args.lattice.now in
-    let n = c.requires.clean.at_most_16 in
+    let y = c.requires.clean in
     let levels = c.of-levels.ensures in
     let other = c.turned.ensures in
-    let turns : Turned l.n l.sets c.of-levels.result.under = rw (levels.count, levels.above) at c.of-levels.result.turned in
     both_on _ _
-    (found l.n l.sets n levels.count levels.count levels.above c.is_full.ensures c.table-joins.ensures)
+    (found l.n l.sets y.at_most_16 levels.count levels.count levels.above c.is_full.ensures c.table-joins.ensures)
     c.if-is_full.true
-    (found l.n _ n levels.count (other.count ∙ levels.count) other.above c.is_full-then-is_full.ensures c.table-meets.ensures
-    ∙ turned_joined l.sets _ l.n turns)
+    (found l.n _ y.at_most_16 levels.count (other.count ∙ levels.count) (other.above ∙ levels.under) c.is_full-then-is_full.ensures c.table-meets.ensures
+    ∙ turned_joined l.sets l.n y)
 
 pub returns-else-is_full : goal.returns-else-is_full
 unfolding complete
