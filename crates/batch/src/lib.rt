@@ -13,8 +13,9 @@ use plant::Plant;
 use rules::Monitor;
 use turns::Batch;
 
-// The answer to each request, from the fresh monitor, and the record after the last. The answers are written by their numbers: over
-// `out.iter_mut().zip(..)` it was tried, and the proof does not close, since of a buffer lent so the check knows the length alone after a turn.
+// The answer to each request, from the fresh monitor, and the record after the last. It takes bytes and not requests of five, since whoever calls it may
+// have a list that ends within a request: the whole ones are served. The answers are written by their numbers: over `out.iter_mut().zip(..)` it was
+// tried, and the proof does not close, since of a buffer lent so the check knows the length alone after a turn.
 pub fn serve(p: Plant, requests: &[u8], out: &mut [u8]) -> Monitor
     requires plant_passes { plant_refusal true true p ≡ 0 }
     requires in_range { length requests.now / 5 ≤ length out.old }

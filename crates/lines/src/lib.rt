@@ -29,7 +29,8 @@ pub fn put_refusal(text: &mut Writer, number: u8)
     put_labelled(text, b"plant ", number);
 }
 
-// The first request is number 1.
+// The first request is number 1. Over `(1u32..).zip(answers)` it was tried: the proof does not close unless the invariant says where the range and the
+// slice stand, which is no plainer than the sum and the cast.
 fn put_answers(text: &mut Writer, answers: &[u8])
     requires in_range { length answers.now < 100000 }
     requires room { Room (answer_lines answers.now (length answers.now)) text.old }

@@ -1,7 +1,8 @@
 // The program's input as a plant and requests, and the text of what the batch makes of them.
 #![tactic(auto)]
 
-ghost use Rattle.std.specs.Prelude.{◌+◌, ◌≤◌, length};
+ghost use Rattle.std.specs.Prelude.{◌≡◌, ◌+◌, ◌≤◌, length, MatchOption};
+ghost use Rattle.printing.specs.Text.{refusal_line};
 ghost use Rattle.printing.specs.Printed.{batch_lines, printed, PrintsRead};
 ghost use Rattle.writer.specs.Writing.{Writes};
 
@@ -11,8 +12,11 @@ use lines::{print_outcome, put_refusal};
 use refusal::{Refusal, answer};
 use writer::Writer;
 
+// The most bytes that are taken.
+const LONGEST: usize = 65536;
+
 // What the program reads into: one byte more than is taken, so that longer input shows.
-pub const INPUT: usize = 65537;
+pub const INPUT: usize = LONGEST + 1;
 
 // 65,536 bytes have at most 13,107 requests, so this is room for the answers, a count, and 255 rights of three bytes.
 const RESULTS: usize = 13107 + 766;
@@ -31,18 +35,27 @@ fn print_batch(plant: &[u8], requests: &[u8], text: &mut Writer)
     print_outcome(text, number, answers, held);
 }
 
-// Over 65,536 bytes are too long. A plant that is not all there is refused with 1, as a file of another length than it says.
+// The plant, as long as its header says, and the requests behind it; none where the header or the plant is not all there.
+fn plant_and_requests(input: &[u8]) -> Option<(&[u8], &[u8])>
+    requires { length input.now ≤ 65536 }
+    ensures { MatchOption result (printed input.now ≡ refusal_line 1)
+        (λ parts. (printed input.now ≡ batch_lines parts.0.now parts.1.now) × (length parts.1.now ≤ 65536)) }
+{
+    if input.len() < HEADER_BYTES {
+        return None;
+    }
+    input.split_at_checked(length_said(input))
+}
+
+// A plant that is not all there is refused as a file of another length than it says.
 fn print_session(input: &[u8], text: &mut Writer)
     requires room { text.old.at + 134139 ≤ length text.old.bytes.now }
     ensures { Writes (printed input.now) text.old text.new }
 {
-    if input.len() > 65536 {
+    if input.len() > LONGEST {
         return text.word(b"long\n");
     }
-    if input.len() < HEADER_BYTES {
-        return put_refusal(text, u8::from(Refusal::WrongLength));
-    }
-    match input.split_at_checked(length_said(input)) {
+    match plant_and_requests(input) {
         Some((plant, requests)) => print_batch(plant, requests, text),
         None => put_refusal(text, u8::from(Refusal::WrongLength)),
     }
@@ -53,9 +66,7 @@ fn print_session(input: &[u8], text: &mut Writer)
 pub fn print_read(input: &[u8; INPUT], n: usize, text: &mut [u8; TEXT]) -> usize
     ensures { PrintsRead input.now n text.old text.new result }
 {
-    // as a slice, since the check does not cover a part of an array that is lent
-    let bytes: &[u8] = input;
     let mut writer = Writer::new(text);
-    print_session(&bytes[..n.min(bytes.len())], &mut writer);
+    print_session(&input[..n.min(INPUT)], &mut writer);
     writer.end()
 }

@@ -24,6 +24,7 @@ fn put_digit(text: &mut Writer, d: u32)
     text.byte(b'0' + d as u8);
 }
 
+#[tactic(auto, using(writer::proofs::Written::writes_nothing))]
 fn put_place(text: &mut Writer, m: u32)
     requires { Room (decimal_place m) text.old }
     ensures { Writes (decimal_place m) text.old text.new }
@@ -34,8 +35,9 @@ fn put_place(text: &mut Writer, m: u32)
 }
 
 // A place that n does not reach has no digit. Five places by fixed divisions of 32 bits: with the toolchain's itoa the line of an answer takes 118
-// instructions, where this takes 76, and permits with 65,000 bytes 1.49 times the baseline's, where its bar is 1.2 and this takes 1.16. 01's session
+// instructions, where this takes 76, and permits with 65,000 bytes some 1.5 times the baseline's, where its bar is 1.2 and this takes 1.13. 01's session
 // has ten answers, and takes 1.21 either way.
+#[tactic(auto, using(writer::proofs::Written::room_rest, printing::proofs::Number::places_length, printing::proofs::Decimal::some_digit))]
 fn put_number(text: &mut Writer, n: u32)
     requires in_range { n < 100000 }
     requires room { Room (decimal n) text.old }
