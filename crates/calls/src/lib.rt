@@ -152,8 +152,8 @@ impl Kept {
 
 // The refusal of the first of three items that is missing; `missing` has that of each that is. The three are tested at once before, so that a call
 // whose items are there asks once: of a number that is made first and then compared with 0 each gate takes twelve instructions more, where a mixed
-// request of a batch on 01's plant takes as many as the baseline's, which is its bar. A start has two items, and two tests that read the record at
-// them, so it asks with an `if` for each of the four.
+// request of a batch on 01's plant is one instruction under the baseline's, which is its bar. A start has two items, and two tests that read the
+// record at them, so it asks with an `if` for each of the four.
 pub fn check_present(missing: [Option<Refusal>; 3]) -> Result<(), Refusal>
     ensures { answer_of result ≡ first (map missing_item missing) }
 {

@@ -4,10 +4,9 @@ use Rattle.base.proofs.Members.{lowest_in, without_less}
 use Rattle.sets.proofs.MembersIterator.next.Goals as goal
 
 pub returns-clause-steps : goal.returns-clause-steps
-returns-clause-steps c = record {
-  was_in = (lowest_in 16 c.args.self.now.rest (omega (arith, c.if-self-eq0.false)) (omega arith)).1;
-  leaves = c.without_one-self.ensures;
-}
+returns-clause-steps c =
+    let l = lowest_in 16 c.args.self.now.rest (omega (arith, c.if-self-eq0.false)) (omega arith) in
+    record { low = l.0; was_in = l.1; leaves = c.without_one-self.ensures }
 
 pub returns-clause-goes : goal.returns-clause-goes
 returns-clause-goes c =
