@@ -16,7 +16,8 @@ fn all_below(entries: &[u8], bound: u8) -> bool
     entries.iter().all(|entry| *entry < bound)
 }
 
-// Each requirement's lattice and each group's requirement is there.
+// Each requirement's lattice and each group's requirement is there. `Fits` is a clause here and no method's fact, of which the check does not find the
+// proof.
 #[tactic(auto, using(plant::proofs::Links::links_in, plant::proofs::Links::front_below))]
 fn links_fit(p: &Plant) -> bool
     requires { Fits p.now }

@@ -1,5 +1,5 @@
 // Test 20: whether a monitor's record can be relied on. A record can come from anywhere, so nothing is asked of it beforehand.
-// That the counts are within the record (`Fits`) is a clause of one function, which is lent the monitor whole, as entries has it.
+// That the counts are within the record (`Fits`) is a clause of `parts_ok` alone, which is lent the monitor whole behind the test of its plant.
 #![tactic(auto)]
 
 ghost use Rattle.std.specs.Prelude.{◌≡◌, ℕ, ◌<◌, cond, IfOk};

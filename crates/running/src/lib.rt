@@ -59,6 +59,7 @@ impl<'a> Counted<'a> {
     }
 }
 
+// It is lent the record behind the test of its plant, so that `Fits` is a clause here.
 pub fn runs_ok(m: &Monitor) -> bool
     requires { Fits m.now.plant }
     ensures { result ≡ all_below (skid_runs_in m.now.plant m.now.running m.now.chosen) m.now.plant.skids }
