@@ -65,7 +65,8 @@ impl Batch {
     }
 
     // One request, and the byte that is its answer. The arms are those of a request by itself (`call_at`, crate single), over what a batch keeps: a
-    // trait for the three that differ would be longer than they are.
+    // trait for the three that differ would be longer than they are. With an enum of the three answers (accepted, not held, refused), which is made a
+    // byte where it is stored, a mixed request of a batch takes 46.7 instructions, where its bar is 35.4.
     pub fn turn(&mut self, r: Request) -> u8
         ensures { Does self.old.tested.monitor (call_by r.kind r.a r.b r.c r.d) result self.new.tested.monitor }
     {
