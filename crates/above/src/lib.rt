@@ -17,8 +17,8 @@ fn strict_sets(s: &[u16; 16]) -> [u16; 16]
     array::from_fn(|i| without_one(s[i], i))
 }
 
-// Level j, whose set is x, lies strictly above the levels that have it in `strict`: what lies above it lies further above them. By the index, since an
-// invariant has no word for the entries of `further` where they come in pairs with those of `strict`.
+// Level j, whose set is x, lies strictly above the levels that have it in `strict`: what lies above it lies further above them. By the index: in a
+// `zip` with `strict` the proof does not close, since an invariant has no word for the entries of `further` there.
 #[tactic(auto, using(base::proofs::Filled::filled))]
 fn add_above(further: &mut [u16; 16], strict: &[u16; 16], j: usize, x: u16)
     requires { j < 16 }
@@ -47,12 +47,11 @@ pub fn in_order(lattice: &Lattice) -> bool
 {
     let strict = strict_sets(&lattice.sets);
     let mut further = [0u16; 16];
-    for j in 0..usize::from(lattice.n) {
-        let x = lattice.sets[j];
-        if !has(x, j) {
+    for (j, x) in lattice.sets[..usize::from(lattice.n)].iter().enumerate() {
+        if !has(*x, j) {
             return false;
         }
-        add_above(&mut further, &strict, j, x);
+        add_above(&mut further, &strict, j, *x);
     }
     all_within(&further, &strict)
 }

@@ -56,12 +56,12 @@ module _ {A : Type 0} (p : A → Bool) (d : A) (xs : List A) where
       rw (← add-one) (ap not (list_any_more p xs n d (omega arith)) ∙ not_or _ _ ∙ ap (λ b. b && not (p (get_or xs n d))) (none_in_front n (omega arith)))
 
 -- What the clause `ran` of the call says: it took the items xs, and then o, at which it stopped.
-abbrev Ran : {S A F : Type 0} → (S → Option A → S → Type 0) → Mut F (A × Unit {0}) Bool → Bool → Bool → S → S → F → Type 0
+abbrev pub Ran : {S A F : Type 0} → (S → Option A → S → Type 0) → Mut F (A × Unit {0}) Bool → Bool → Bool → S → S → F → Type 0
 Ran {S} {A} {F} steps g go r s u f = (xs : List A) × (o : Option A) × (j : F) × YieldsThen steps s xs o u × FoldsTo (λ p x q. Called g p (x, tt) go q) f xs j
     × MatchOption o (r ≡ go) (λ x. (r ≡ not go) × ((h : F) × Called g j (x, tt) (not go) h))
 
 -- The closure f computes p of what v shows of an item, and a call leaves f as it is.
-abbrev Computes : {A B F : Type 0} → Mut F (A × Unit {0}) Bool → F → (A → B) → (B → Bool) → Type 0
+abbrev pub Computes : {A B F : Type 0} → Mut F (A × Unit {0}) Bool → F → (A → B) → (B → Bool) → Type 0
 Computes {A} {B} {F} g f v p = (x : A) (b : Bool) (q : F) → Called g f (x, tt) b q → (q ≡ f) × (b ≡ p (v x))
 
 -- `(0..n).all(|i| ..)`

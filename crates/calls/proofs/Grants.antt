@@ -93,15 +93,17 @@ module _ (m : Monitor) {granted : List ℕ} (G : Granted m.plant.task_rights m.r
   pub stop_item : (s : ℕ) → m.plant.skids ≤ 8 → {r : ℕ} {left : Monitor} → Does m (stop s) r left → r ≡ 0 → s < 8
   stop_item s a d e = omega (arith, stop_ok m.plant (view_of m.plant m) s (zero (stop s) d e))
 
-  pub start_granted : (s t : ℕ) → (s < 8) × (t < 16) → {r : ℕ} {left : Monitor} → Does m (start s t) r left → r ≡ 0
+  pub start_granted : (s t : ℕ) → m.plant.skids ≤ 8 → m.plant.tasks ≤ 16 → {r : ℕ} {left : Monitor} → Does m (start s t) r left → r ≡ 0
       → Granted m.plant.task_rights left.running m.plant.skids (fill_from granted (s * 8) (rights_in m.plant.task_rights t) 8)
   unfolding stepped changed
-  start_granted s t l d e = rw (d.leaves, zero (start s t) d e) (task_put m.plant.task_rights m.running s l.0 G t l.1)
+  start_granted s t a b d e =
+      let l = start_items s t a b d e in
+      rw (d.leaves, zero (start s t) d e) (task_put m.plant.task_rights m.running s l.0 G t l.1)
 
-  pub stop_granted : (s : ℕ) → s < 8 → {r : ℕ} {left : Monitor} → Does m (stop s) r left → r ≡ 0
+  pub stop_granted : (s : ℕ) → m.plant.skids ≤ 8 → {r : ℕ} {left : Monitor} → Does m (stop s) r left → r ≡ 0
       → Granted m.plant.task_rights left.running m.plant.skids (fill_from granted (s * 8) (get_row (replicate 8 0)) 8)
   unfolding stepped changed
-  stop_granted s l d e = rw (d.leaves, zero (stop s) d e) (none_put m.plant.task_rights m.running s l G)
+  stop_granted s a d e = rw (d.leaves, zero (stop s) d e) (none_put m.plant.task_rights m.running s (stop_item s a d e) G)
 
 -- the gate by them is the gate
 module _ (group rights running chosen : List ℕ) {skids : ℕ} {granted : List ℕ} (tanks : ℕ) (G : Granted rights running skids granted) (there : all_below (entry_below group 8) tanks ≡ true) where

@@ -16,11 +16,11 @@ use Rattle.std.specs.Prelude.{Option, Some, None, is_none, unwrap_or, Ok, Err}
 use Rattle.base.specs.Below.{any_below}
 use Rattle.base.specs.Bits.{bit}
 use Rattle.base.specs.Chain.{◌gives◌, first}
-use Rattle.base.proofs.Logic.{split, true_false, and_true, and_both}
+use Rattle.base.proofs.Logic.{split, true_false, and_both}
 use Rattle.base.proofs.Below.{any_yes, any_none, any_same}
 use Rattle.base.proofs.Bits.{zero_bit}
 use Rattle.base.proofs.Shared.{within_lt}
-use Rattle.base.proofs.Members.{lowest_in, without_less}
+use Rattle.base.proofs.Members.{lowest_in, part_left, without_less}
 use Rattle.base.proofs.Filled.{fill_at, fill_length}
 use Rattle.refusal.specs.declared.Refusal.TheVariants.{LevelNotSet, NoTankAtOrUnder}
 use Rattle.sets.specs.Members.{TakenFrom}
@@ -99,7 +99,7 @@ next_group rest e n =
 
 -- a set without one of its groups is a smaller number
 pub goes_down : (rest left g : ℕ) → Eight rest → bit rest g ≡ true → ((j : ℕ) → bit left j ≡ bit rest j && not (eqb g j)) → left < rest
-goes_down rest left g e h w = without_less 16 rest left g (small left (λ j b. e j (and_true (bit rest j) (not (eqb g j)) (sym (w j) ∙ b)).0)) h w
+goes_down rest left g e h w = without_less 16 rest left g (small left (λ j b. e j (part_left rest left g w j b))) h w
 
 module _ {p q : ℕ → Bool} {tank : ℕ → ℕ} {need rest number : ℕ} {row : List ℕ} (v : RowSoFar p q tank need rest number row) where
   pub all_seen : rest ≡ 0 → SetDone p q tank need number row
@@ -139,7 +139,7 @@ module _ {p q : ℕ → Bool} {tank : ℕ → ℕ} {need rest number : ℕ} {row
       -- the loop goes on, with a number that says whether a group seen so far lacks a tank
       go_on : {number' : ℕ} → number' ≡ cond (any_below (λ j. seen need left j && q j) 8) 28 0 → RowSoFar p q tank need left number' row'
       go_on a = record {
-        part = λ j b. v.part j (and_true (bit rest j) (not (eqb g j)) (sym (w j) ∙ b)).0;
+        part = λ j b. v.part j (part_left rest left g w j b);
         all_set = λ j b. split (eqb g j)
             (λ z. rw (← eqb-true g j z) is_set)
             (λ z. v.all_set j (sym (seen_other j z) ∙ b));

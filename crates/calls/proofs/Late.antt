@@ -1,11 +1,10 @@
--- What a start finds at its groups is what the rules say, on every record that has the parts lent to it. Assumes nothing.
+-- What a start finds at its groups is what the rules say, on every record that passes test 20. Assumes nothing.
 use mathlib.Core.Path.{◌≡◌, refl, sym, ap, ◌∙◌}
-use mathlib.Core.Logic.{◌≢◌}
 use Prim.Native.Nat.{ℕ, ◌<◌}
 use native.Mathlib.Omega.{arith}
-use mathlib.Core.Bool.{Bool, true, false, cond, not, ◌&&◌}
+use mathlib.Core.Bool.{Bool, true, false, cond, not, ◌&&◌, and_assoc}
 use mathlib.Core.List.{List}
-use lib.Dec.{eqb}
+use lib.Dec.{eqb, ltb}
 use lib.ListN.{replicate, length-replicate}
 use borrow.Author.Tests.{eqb-false, eq-eqb, ne_eqb}
 use Rattle.std.specs.Prelude.{Option, unwrap_or, Result, Ok, Err, IfOk}
@@ -13,7 +12,7 @@ use Rattle.base.specs.Below.{any_below}
 use Rattle.base.specs.Bits.{bit}
 use Rattle.base.specs.Chain.{first}
 use Rattle.base.proofs.Logic.{split}
-use Rattle.base.proofs.Below.{any_no, any_same}
+use Rattle.base.proofs.Below.{any_no, any_same, any_upto}
 use Rattle.base.proofs.Filled.{fill_at}
 use Rattle.plant.specs.declared.Plant.{Plant}
 use Rattle.plant.specs.Plant.{requirement_of, needs}
@@ -28,7 +27,7 @@ use Rattle.rules.specs.declared.Monitor.{Monitor}
 use Rattle.rules.specs.Rules.{blank_at, blank, lacking, conditions, pick_for}
 use Rattle.calls.specs.Work.{level_known, wish_in, found_in, blank_in, lacking_in, pick_in, NeedOf, Reached, RowDone, get_row}
 use Rattle.calls.specs.Start.{Startable, SearchReads, LateReads, Looked, NeedsAt, wish_of, stored_wish, late_tests}
-use Rattle.calls.proofs.Made.{reached, over_groups, needed_there}
+use Rattle.calls.proofs.Made.{needed_there}
 use Rattle.calls.proofs.Known.{known, none_set, byte_set}
 use Rattle.calls.proofs.Ready.{plant_valid, level_there}
 use Rattle.calls.proofs.Views.{level_is}
@@ -51,41 +50,41 @@ pub record RowChosen (m : Monitor) (s t : ℕ) (outcome : Result (List ℕ) Refu
 
 -- what is looked up is there, and the level that is stored is the wish
 module _ {s t : ℕ} {m : Monitor} (W : Startable s t m) where
+  is_valid : Valid m.plant
+  is_valid = plant_valid m W.passes
+
   pub skid_fits : s < 8
-  skid_fits = omega (arith, W.skid, (plant_valid m W.passes).counts.skids_fit)
+  skid_fits = omega (arith, W.skid, is_valid.counts.skids_fit)
 
   pub task_fits_lem : t < 16
-  task_fits_lem = omega (arith, W.task, (plant_valid m W.passes).counts.tasks_fit)
+  task_fits_lem = omega (arith, W.task, is_valid.counts.tasks_fit)
 
   module _ (g : ℕ) (l : g < m.plant.groups) where
     pub group_fits : g < 8
-    group_fits = omega (arith, (plant_valid m W.passes).counts.groups_fit)
+    group_fits = omega (arith, is_valid.counts.groups_fit)
 
-    abbrev pub stored : ℕ
-    stored = wish_in m.plant.group_requirement m.levels s t g
+    pub is_wish : wish_in m.plant.group_requirement m.levels s t g ≡ wish_of m s t (requirement_of m.plant g)
+    is_wish = sym (level_is m W.passes s t g W.skid W.task l)
 
-    pub is_wish : stored ≡ wish_of m s t (requirement_of m.plant g)
-    is_wish = (sym (level_is m W.passes s t g W.skid W.task l))
-
-    pub stored_known : level_known m.levels s t (requirement_of m.plant g) ≡ true
-    stored_known = (level_there m W.passes s t (requirement_of m.plant g) W.skid W.task ((plant_valid m W.passes).req_in g l))
-
-    pub level_fits : stored ≢ 255 → stored < 16
-    level_fits = known stored 16 stored_known
-
-  -- the groups of the set of those that the task needs
-  module _ (need : ℕ) (n : NeedOf m.plant t need) where
-    pub all_reached : Reached m.plant.group_requirement m.levels s t need
-    all_reached = (reached m W.passes s t need W.skid W.task n)
+    stored_known : level_known m.levels s t (requirement_of m.plant g) ≡ true
+    stored_known = level_there m W.passes s t (requirement_of m.plant g) W.skid W.task (is_valid.req_in g l)
 
   -- what the tanks of the groups are searched in
   pub search_reads : SearchReads m.plant m.levels s t
-  search_reads = record {
-    valid = plant_valid m W.passes;
-    skid = skid_fits;
-    task = task_fits_lem;
-    levels_known = λ g l. level_there m W.passes s t (requirement_of m.plant g) W.skid W.task ((plant_valid m W.passes).req_in g l);
-  }
+  search_reads = record { valid = is_valid; skid = skid_fits; task = task_fits_lem; levels_known = stored_known }
+
+  -- the groups of the set of those that the task needs
+  module _ (need : ℕ) (n : NeedOf m.plant t need) where
+    pub reached : Reached m.plant.group_requirement m.levels s t need
+    reached g e =
+        let l = (needed_there m.plant t need n g e).0 in
+        (group_fits g l, (omega (arith, is_valid.req_in g l, is_valid.counts.requirements_fit), stored_known g l))
+
+    -- a test of the groups of the set, and one of the groups that the task needs
+    pub over_needed : (p : ℕ → Bool) → any_below (λ g. bit need g && p g) 8 ≡ any_below (λ g. needs m.plant t g && p g) m.plant.groups
+    over_needed p =
+        any_same 8 (λ g. bit need g && p g) (λ g. ltb g m.plant.groups && (needs m.plant t g && p g)) (λ g l. ap (λ x. x && p g) (n g) ∙ and_assoc (ltb g m.plant.groups) (needs m.plant t g) (p g))
+        ∙ any_upto 8 m.plant.groups (λ g. needs m.plant t g && p g) is_valid.counts.groups_fit
 
 -- a table of all choices has what a start looks up
 pub table_looked : {P : Plant} {levels : List ℕ} {s t : ℕ} → SearchReads P levels s t → {made : List (List (Option ℕ))} → ChoicesIn P made → Looked P levels s t made
@@ -97,7 +96,7 @@ module _ {made : List (List (Option ℕ))} {s t : ℕ} {m : Monitor} (R : LateRe
   P = m.plant
 
   X : Valid P
-  X = plant_valid m R.startable.passes
+  X = is_valid R.startable
 
   abbrev found : ℕ → Option ℕ
   found = found_in (made_at made) m.plant.group_requirement m.levels s t
@@ -105,15 +104,11 @@ module _ {made : List (List (Option ℕ))} {s t : ℕ} {m : Monitor} (R : LateRe
   there : (g : ℕ) → bit need g ≡ true → NeedsAt P t g
   there = needed_there P t need n
 
-  -- a test of the groups of the set, and one of the groups that the task needs
-  over_needed : (p : ℕ → Bool) → any_below (λ g. bit need g && p g) 8 ≡ any_below (λ g. needs P t g && p g) P.groups
-  over_needed p = let W = R.startable in over_groups m W.passes s t need W.skid W.task n p (λ g. needs P t g && p g) (λ g l. refl)
-
   same_unset : any_below (blank_in m.plant.group_requirement m.levels s t (bit need)) 8 ≡ any_below (λ g. needs P t g && level_unset m s t g) P.groups
   same_unset =
       any_same 8 (blank_in m.plant.group_requirement m.levels s t (bit need)) (λ g. bit need g && level_unset m s t g)
       (λ g l. split (bit need g) (λ b. rw (b, is_wish R.startable g (there g b).0)) (λ b. rw b))
-      ∙ over_needed (level_unset m s t)
+      ∙ over_needed R.startable need n (level_unset m s t)
 
   -- no level of the set is unset: the table has the choices
   module _ (z : any_below (blank_in m.plant.group_requirement m.levels s t (bit need)) 8 ≡ false) where
@@ -134,7 +129,7 @@ module _ {made : List (List (Option ℕ))} {s t : ℕ} {m : Monitor} (R : LateRe
     same_lacking =
         any_same 8 (lacking_in (made_at made) m.plant.group_requirement m.levels s t (bit need)) (λ g. bit need g && no_tank m s t g)
         (λ g l. split (bit need g) (λ b. rw (b, same_found g b) (none_set (tank_for m s t g) ∙ none_served g (there g b).0)) (λ b. rw b))
-        ∙ over_needed (no_tank m s t)
+        ∙ over_needed R.startable need n (no_tank m s t)
 
     same_pick : (g : ℕ) → cond (bit need g) (unwrap_or (found g) 255) 255 ≡ cond (bit need g) (tank_for m s t g) 255
     same_pick g = split (bit need g) (λ b. rw (b, same_found g b) (byte_set (tank_for m s t g))) (λ b. rw b)

@@ -6,7 +6,6 @@ pub mod Grants
 pub mod Groups
 pub mod Ready
 pub mod Views
-pub mod Own
 pub mod Late
 pub mod Searched
 pub mod Steps

@@ -10,7 +10,7 @@ use borrow.Author.Tests.{lt-ltb, eq-eqb}
 use Rattle.base.specs.Below.{all_below}
 use Rattle.base.proofs.Logic.{or_left, or_right}
 use Rattle.base.proofs.Below.{all_yes}
-use Rattle.plant.specs.Plant.{requirement_of, levels_of, group_of}
+use Rattle.plant.specs.Plant.{levels_of, group_of}
 use Rattle.plant.specs.Checks.{entry_below, Sound}
 use Rattle.plant.specs.Valid.{Valid}
 use Rattle.plant.proofs.Valid.{valid}
@@ -18,7 +18,7 @@ use Rattle.rules.specs.declared.Monitor.{Monitor}
 use Rattle.rules.specs.Intact.{IntactView}
 use Rattle.rules.specs.Record.{view_of, level_at, has_level, intact}
 use Rattle.rules.proofs.IntactWords.{intact_means}
-use Rattle.calls.specs.Work.{task_known, level_known, wish_known}
+use Rattle.calls.specs.Work.{task_known, level_known}
 
 module _ (m : Monitor) (i : intact m.plant m ≡ true) where
   pub plant_sound : Sound m.plant
@@ -54,6 +54,3 @@ module _ (m : Monitor) (i : intact m.plant m ≡ true) where
       (λ h. let k : get_or m.levels (level_at s t d) 0 < levels_of m.plant d = rw e at h in
       or_right (eqb (get_or m.levels (level_at s t d) 0) 255) (ltb (get_or m.levels (level_at s t d) 0) 16) (lt-ltb (get_or m.levels (level_at s t d) 0) 16 (omega (arith, k, plant_valid.levels_fit d c))))
       ((skid_intact s a).levels_known t d b c)
-
-  pub wishes_known : (s t : ℕ) → s < m.plant.skids → t < m.plant.tasks → all_below (wish_known m.plant.group_requirement m.levels s t) m.plant.groups ≡ true
-  wishes_known s t a b = all_yes m.plant.groups (wish_known m.plant.group_requirement m.levels s t) (λ g l. level_there s t (requirement_of m.plant g) a b (plant_valid.req_in g l))

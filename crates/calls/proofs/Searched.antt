@@ -1,5 +1,5 @@
 -- The choices that a start by itself looks up, searched for one group after the other. Assumes nothing.
-use mathlib.Core.Path.{◌≡◌, refl, sym, ap, ◌∙◌}
+use mathlib.Core.Path.{◌≡◌, sym, ap, ◌∙◌}
 use mathlib.Core.Logic.{◌≢◌}
 use Prim.Native.Nat.{ℕ, ◌<◌}
 use native.Mathlib.Omega.{arith}
@@ -11,6 +11,7 @@ use borrow.Author.Tests.{eqb-true, eqb-false}
 use Rattle.std.specs.Prelude.{Option}
 use Rattle.base.specs.Bits.{bit}
 use Rattle.base.proofs.Logic.{split, and_true}
+use Rattle.base.proofs.Members.{part_left}
 use Rattle.plant.specs.declared.Plant.{Plant}
 use Rattle.plant.specs.Plant.{requirement_of}
 use Rattle.choice.specs.Choice.{unset, if_set, choice}
@@ -61,7 +62,7 @@ module _ {P : Plant} {levels : List ℕ} {s t need rest : ℕ} {made : List (Lis
     next : {made' : List (List (Option ℕ))} → EightRows made' → (level g ≢ unset → entry made' g ≡ if_set (choice P g (stored_wish levels s t)))
         → ((j : ℕ) → eqb g j ≡ false → bit need j ≡ true → level j ≢ unset → entry made' j ≡ entry made j) → LookedSoFar P levels s t need left made'
     next a b c = record {
-      part = λ j h. v.part j (and_true (bit rest j) (not (eqb g j)) (sym (T.leaves j) ∙ h)).0;
+      part = λ j h. v.part j (part_left rest left g T.leaves j h);
       size = a;
       entries = λ j h x. split (eqb g j)
           (λ z. let e = eqb-true g j z in let y : level g ≢ unset = rw e x in rw (← e) (b y))
@@ -69,9 +70,6 @@ module _ {P : Plant} {levels : List ℕ} {s t need rest : ℕ} {made : List (Lis
           let k : seen need rest j ≡ true = rw (T.leaves j, z, bool.and-true (bit rest j)) at h in
           c j z (and_true (bit need j) (not (bit rest j)) k).0 x ∙ v.entries j k x);
     }
-
-    pub looked_passed : eqb (level g) unset ≡ true → LookedSoFar P levels s t need left made
-    looked_passed e = next v.size (λ x. absurd (x (eqb-true _ _ e))) (λ j z b x. refl)
 
     pub looked_put : eqb (level g) unset ≡ false → {o : Option ℕ} → o ≡ if_set (group_choice P g (level g)) → LookedSoFar P levels s t need left (with_made made g (level g) o)
     looked_put f {o} e =

@@ -1,14 +1,14 @@
 -- A loop over request bytes makes the run of their calls from the fresh monitor. Assumes nothing.
 use mathlib.Core.Path.{◌≡◌, refl, sym, ap, subst, ◌∙◌}
 use Prim.Native.Nat.{ℕ, zero, suc, ◌+◌, ◌*◌, ◌<◌, ◌≤◌}
-use native.Mathlib.Nat.{add-zero}
-use native.Mathlib.Numerals.{add-one}
+use native.Mathlib.Nat.{add-zero, zero-add}
 use native.Mathlib.Omega.{arith}
 use mathlib.Core.Bool.{true}
-use mathlib.Core.List.{List, [], ◌∷◌, ◌++◌}
+use mathlib.Core.List.{List, [], ◌∷◌, ◌++◌, map}
 use native.Mathlib.Decide.{ℕ_discrete}
-use lib.ListN.{length, set, get_or, length-append, get_or-append}
-use lib.Seq.{get_or-append_seam}
+use lib.ListN.{length, set, get_or, take, length-set, length-map, length-append, get_or-append, get_or-map}
+use lib.Seq.{get_or-append_seam, length-take-le, take_all, ext_get_or}
+use Rattle.std.proofs.lemmas.List.{map_more}
 use Rattle.base.specs.Overlay.{overlay}
 use Rattle.base.proofs.Overlaid.{overlay_none, overlay_more}
 use Rattle.plant.specs.declared.Plant.{Plant}
@@ -16,15 +16,13 @@ use Rattle.plant.specs.Checks.{plant_refusal, Sound}
 use Rattle.plant.proofs.Sound.{sound_law}
 use Rattle.rules.specs.declared.Monitor.{Monitor}
 use Rattle.rules.specs.Rules.{Call, answer}
-use Rattle.rules.specs.Record.{fresh, view_of, intact, stepped}
+use Rattle.rules.specs.Record.{Sized, fresh, view_of, intact, stepped}
 use Rattle.rules.specs.Run.{runs, ends, TestedOnce}
 use Rattle.rules.proofs.Agree.{fresh_agree, intact_true}
 use Rattle.rules.proofs.IntactKept.{tested_once}
 use Rattle.std.specs.Simd.{first_chunks}
-use Rattle.calls.specs.declared.Request.{Request}
-use Rattle.calls.specs.Lent.{call_by}
-use Rattle.calls.specs.Requests.{OfBytes}
-use Rattle.calls.specs.RequestBytes.{call_at, calls_of}
+use Rattle.calls.specs.Lent.{Does}
+use Rattle.calls.specs.RequestBytes.{call_in, call_at, calls_of}
 use Rattle.base.proofs.Chunks.{chunk_at}
 
 -- one call more at the end of a list
@@ -59,58 +57,69 @@ calls_at bytes (suc n) i d l = elim (ℕ_discrete i n) [
   | no e ↦ get_or-append (calls_of bytes n) (call_at bytes n ∷ []) d i (omega (arith, calls_length bytes n)) ∙ calls_at bytes n i d (omega arith)
 ]
 
-pub calls_more : (bytes : List ℕ) (n : ℕ) → calls_of bytes (n + 1) ≡ calls_of bytes n ++ (call_at bytes n ∷ [])
-unfolding calls_of
-calls_more bytes n = rw add-one
-
--- the request of the five bytes of part i asks for call i
-pub chunk_call : (bytes : List ℕ) (k i : ℕ) (r : Request) → i < k → OfBytes (get_or (first_chunks 5 k bytes) i []) r → call_by r.kind r.a r.b r.c r.d ≡ call_at bytes i
-chunk_call bytes k i r l e =
+-- the calls of the parts of five bytes are those of the bytes
+chunk_call : (bytes : List ℕ) (k i : ℕ) → i < k → call_in (get_or (first_chunks 5 k bytes) i []) ≡ call_at bytes i
+chunk_call bytes k i l =
     let at : (j : ℕ) → j < 5 → get_or (get_or (first_chunks 5 k bytes) i []) j 0 ≡ get_or bytes (i * 5 + j) 0 = λ j b. chunk_at 5 k bytes i j l b in
-    rw (e, at 0 (omega arith), at 1 (omega arith), at 2 (omega arith), at 3 (omega arith), at 4 (omega arith), add-zero)
+    rw (at 0 (omega arith), at 1 (omega arith), at 2 (omega arith), at 3 (omega arith), at 4 (omega arith), add-zero)
+
+pub chunk_calls : (bytes : List ℕ) (k : ℕ) {requests : List (List ℕ)} → requests ≡ first_chunks 5 k bytes → length requests ≡ k → map call_in requests ≡ calls_of bytes k
+chunk_calls bytes k {requests} e n =
+    ext_get_or (call_in []) (map call_in requests) (calls_of bytes k) (length-map requests call_in ∙ n ∙ sym (calls_length bytes k))
+    (λ i l.
+    let b : i < k = omega (arith, n, length-map requests call_in) in
+    get_or-map call_in requests i [] ∙ ap (λ (x : List (List ℕ)). call_in (get_or x i [])) e ∙ chunk_call bytes k i b
+    ∙ sym (calls_at bytes k i (call_in []) b))
 
 module _ (P : Plant) (q : plant_refusal true true P ≡ 0) where
   sound : Sound P
   sound = (sound_law P).0 q
 
   -- the fresh monitor passes test 20, and so does every later one
-  pub once : (cs : List Call) → TestedOnce (fresh P) cs
+  pub fresh_passes : record { sized : Sized (fresh P); passes_test_20 : intact (fresh P).plant (fresh P) ≡ true }
   unfolding fresh
-  once cs = let A = fresh_agree P sound in tested_once (fresh P) A.sized (intact_true P sound (fresh P) [] A) cs
+  fresh_passes = let A = fresh_agree P sound in record { sized = A.sized; passes_test_20 = intact_true P sound (fresh P) [] A }
 
-  module _ (bytes : List ℕ) (i : ℕ) {M : Monitor} (e : M ≡ ends (fresh P) (calls_of bytes i)) where
-    pub still_intact : intact M.plant M ≡ true
-    unfolding fresh
-    still_intact = subst (λ (x : Monitor). intact x.plant x ≡ true) (sym e) (subst (λ (p : Plant). intact p (ends (fresh P) (calls_of bytes i)) ≡ true) (sym (once (calls_of bytes i)).same_plant) (once (calls_of bytes i)).still_passes)
+  pub once : (cs : List Call) → TestedOnce (fresh P) cs
+  once = tested_once (fresh P) fresh_passes.sized fresh_passes.passes_test_20
 
-    pub next_record : {M' : Monitor} → M' ≡ stepped M.plant M (call_at bytes i) → M' ≡ ends (fresh P) (calls_of bytes (i + 1))
-    next_record h =
-        h ∙ ap (λ (x : Monitor). stepped x.plant x (call_at bytes i)) e
-        ∙ sym (ap (ends (fresh P)) (calls_more bytes i) ∙ ends_more (calls_of bytes i) (fresh P) (call_at bytes i))
+  pub still_intact : (cs : List Call) {M : Monitor} → M ≡ ends (fresh P) cs → intact M.plant M ≡ true
+  unfolding fresh
+  still_intact cs e = subst (λ (x : Monitor). intact x.plant x ≡ true) (sym e) (subst (λ (p : Plant). intact p (ends (fresh P) cs) ≡ true) (sym (once cs).same_plant) (once cs).still_passes)
 
-    place : 0 + length (runs (fresh P) (calls_of bytes i)) ≡ i
-    place = omega (arith, runs_length (calls_of bytes i) (fresh P), calls_length bytes i)
-
-    pub next_out : (out₀ : List ℕ) {out : List ℕ} {v : ℕ} → i < length out₀ → out ≡ overlay out₀ 0 (runs (fresh P) (calls_of bytes i)) → v ≡ answer M.plant (view_of M.plant M) (call_at bytes i) → set out i v ≡ overlay out₀ 0 (runs (fresh P) (calls_of bytes (i + 1)))
-    next_out out₀ {out} {v} l h w =
-        ap (λ (x : List ℕ). set x i v) h
-        ∙ ap (λ (k : ℕ). set (overlay out₀ 0 (runs (fresh P) (calls_of bytes i))) k v) (sym place)
-        ∙ overlay_more out₀ 0 (runs (fresh P) (calls_of bytes i)) v (omega (arith, place))
-        ∙ ap (λ (x : ℕ). overlay out₀ 0 (runs (fresh P) (calls_of bytes i) ++ (x ∷ []))) (w ∙ ap (λ (x : Monitor). answer x.plant (view_of x.plant x) (call_at bytes i)) e)
-        ∙ ap (overlay out₀ 0) (sym (ap (runs (fresh P)) (calls_more bytes i) ∙ runs_more (calls_of bytes i) (fresh P) (call_at bytes i)))
+-- answer i is stored behind those before it
+pub answer_stored : (ys answers : List ℕ) {zs : List ℕ} {i : ℕ} (v : ℕ) → zs ≡ overlay ys 0 answers → length answers ≡ i → i < length ys → set zs i v ≡ overlay ys 0 (answers ++ (v ∷ []))
+answer_stored ys answers v e n l =
+    rw e (ap (λ (k : ℕ). set (overlay ys 0 answers) k v) (sym (zero-add (length answers) ∙ n)) ∙ overlay_more ys 0 answers v (omega (arith, n)))
 
 -- what the loop knows before request i: the record and the answers so far are the run's
-pub record Serving (P : Plant) (bytes : List ℕ) (n : ℕ) (out₀ : List ℕ) (out : List ℕ) (m : Monitor) (i : ℕ) : Type 0 where
-  pub at_most : i ≤ n
+pub record Serving (first : Monitor) (requests : List (List ℕ)) (out₀ out : List ℕ) (m : Monitor) (i : ℕ) : Type 0 where
+  pub at_most : i ≤ length requests
   pub size : length out ≡ length out₀
-  pub state : m ≡ ends (fresh P) (calls_of bytes i)
-  pub answers : out ≡ overlay out₀ 0 (runs (fresh P) (calls_of bytes i))
+  pub state : m ≡ ends first (map call_in (take i requests))
+  pub answers : out ≡ overlay out₀ 0 (runs first (map call_in (take i requests)))
 
--- before the first request
-pub first_record : (P : Plant) (bytes : List ℕ) → fresh P ≡ ends (fresh P) (calls_of bytes 0)
-unfolding ends calls_of
-first_record P bytes = refl
+module _ (first : Monitor) (requests : List (List ℕ)) (out₀ : List ℕ) where
+  -- before the first request
+  pub serving_none : Serving first requests out₀ out₀ first 0
+  unfolding ends runs
+  serving_none = record { at_most = omega arith; size = refl; state = refl; answers = overlay_none out₀ 0 }
 
-pub first_out : (P : Plant) (bytes out : List ℕ) → out ≡ overlay out 0 (runs (fresh P) (calls_of bytes 0))
-unfolding runs calls_of
-first_out P bytes out = overlay_none out 0
+  -- a request more: its answer is stored, and it leaves the record left
+  pub serving_more : {out : List ℕ} {m left : Monitor} {i v : ℕ} → length requests ≤ length out₀ → i < length requests → Serving first requests out₀ out m i → Does m (call_in (get_or requests i [])) v left → Serving first requests out₀ (set out i v) left (i + 1)
+  serving_more {out} {m} {left} {i} {v} room l s d =
+      let cs : List Call = map call_in (take i requests) in
+      let c : Call = call_in (get_or requests i []) in
+      let n : length (runs first cs) ≡ i = omega (arith, runs_length cs first, length-map (take i requests) call_in, length-take-le i requests s.at_most) in
+      record {
+        at_most = omega arith;
+        size = simp length-set s.size;
+        state = rw (map_more call_in requests i [] l, ends_more cs first c, ← s.state) d.leaves;
+        answers =
+            rw (map_more call_in requests i [] l, runs_more cs first c, ← s.state, ← d.answers)
+            (answer_stored out₀ (runs first cs) v s.answers n (omega arith));
+      }
+
+  -- behind the last request
+  pub serving_all : {out : List ℕ} {m : Monitor} {i : ℕ} → length requests ≤ i → Serving first requests out₀ out m i → (m ≡ ends first (map call_in requests)) × (out ≡ overlay out₀ 0 (runs first (map call_in requests)))
+  serving_all {out} {m} {i} l s = rw (← take_all i requests l) (s.state, s.answers)

@@ -8,21 +8,26 @@ use lib.Dec.{eqb, leb}
 use lib.ListN.{get_or, replicate, get_or-replicate}
 use lib.ListN as ListN
 use borrow.Author.Tests.{leb-false, eqb-true}
+use Rattle.std.specs.Prelude.{Result, Ok, Err}
+use Rattle.std.specs.Result.{IsErr, IsErrAnd}
 use Rattle.base.specs.Chain.{Test, ◌gives◌, first}
 use Rattle.base.proofs.Chain.{clear, first_append}
 use Rattle.base.proofs.Logic.{split}
 use Rattle.base.proofs.Below.{all_at}
 use Rattle.plant.specs.declared.Plant.{Plant}
-use Rattle.plant.specs.Plant.{levels_of}
+use Rattle.plant.specs.Plant.{lattice_of, levels_of}
 use Rattle.plant.specs.Right.{valid_right}
 use Rattle.choice.specs.Choice.{unset}
+use Rattle.refusal.specs.declared.Refusal.{Refusal}
+use Rattle.refusal.specs.Number.{number_of, gate_answer_of}
+use Rattle.refusal.proofs.NotZero.{number_not_0}
 use Rattle.rules.specs.declared.Monitor.{Monitor}
 use Rattle.rules.specs.declared.Tested.{Tested}
 use Rattle.rules.specs.Rules.{Call, set, start, stop, gate, unknown, skid_of, View, holds, conditions, refusal, accepted_answer, answer}
 use Rattle.rules.specs.Record.{Sized, view_of, level_at, fill_from, intact, changed, stepped, after, with_levels, with_task}
 use Rattle.rules.proofs.Accepted.{GateOk, gate_ok}
 use Rattle.rules.proofs.IntactKept.{Passes, after_stepped, after_passes}
-use Rattle.calls.specs.Work.{task_known, Granted, held_in, granted_in, get_row}
+use Rattle.calls.specs.Work.{task_known, Granted, held_in, granted_in, set_items, get_row}
 use Rattle.calls.specs.Lent.{Does}
 use Rattle.calls.proofs.Rows.{row_same}
 use Rattle.calls.proofs.There.{no_right}
@@ -72,7 +77,7 @@ module _ (m : Monitor) (i : intact m.plant m ≡ true) where
   -- set
   module _ (s t d v : ℕ) where
     abbrev items : List Test
-    items = leb P.skids s gives 21 ∷ leb P.tasks t gives 22 ∷ leb P.requirements d gives 23 ∷ []
+    items = set_items P s t d
 
     abbrev level : List Test
     level = leb (levels_of P d) v gives 24 ∷ []
@@ -81,20 +86,29 @@ module _ (m : Monitor) (i : intact m.plant m ≡ true) where
     unfolding refusal conditions
     set_number = first_append items level (refl, (refl, (refl, tt)))
 
-    pub set_does : {r : ℕ} {left : Monitor} → r ≡ cond (eqb (first items) 0) (first level) (first items)
+    set_does : {r : ℕ} {left : Monitor} → r ≡ cond (eqb (first items) 0) (first level) (first items)
         → left ≡ cond (eqb r 0) (with_levels m (ListN.set m.levels (level_at s t d) v)) m → Does m (set s t d v) r left
     unfolding accepted_answer changed
     set_does e l = does m (set s t d v) refl (e ∙ sym set_number) l
 
-    -- one of the items is missing, or all are there
+    -- `x` is the number of the first of the items that is missing, 0 where all are there
     module _ {x : ℕ} (e : x ≡ first items) where
       pub set_missing : eqb x 0 ≡ false → Does m (set s t d v) x m
       set_missing n = set_does (e ∙ sym (rw (rw e at n))) (rw n)
 
-      pub set_there : x ≡ 0 → (s < P.skids) × ((t < P.tasks) × (d < P.requirements))
-      set_there z =
-          let k = clear items (refl, (refl, (refl, tt))) (sym e ∙ z) in
-          (leb-false _ _ k.0, (leb-false _ _ k.1.0, leb-false _ _ k.1.1.0))
+      module _ (z : x ≡ 0) where
+        pub set_fits : ((s < 8) × (t < 16)) × ((d < 8) × (lattice_of P d < 8))
+        set_fits =
+            let k = clear items (refl, (refl, (refl, tt))) (sym e ∙ z) in
+            let w = plant_valid m i in
+            let l : d < P.requirements = leb-false _ _ k.1.1.0 in (
+              (omega (arith, leb-false _ _ k.0, w.counts.skids_fit), omega (arith, leb-false _ _ k.1.0, w.counts.tasks_fit)),
+              (omega (arith, l, w.counts.requirements_fit), omega (arith, w.lattice_in d l, w.counts.lattices_fit)),
+            )
+
+        pub set_level : {r : ℕ} {left : Monitor} → r ≡ first level → left ≡ cond (eqb r 0) (with_levels m (ListN.set m.levels (level_at s t d) v)) m
+            → Does m (set s t d v) r left
+        set_level a l = set_does (a ∙ sym (rw (sym e ∙ z))) l
 
   -- stop
   pub stop_does : (s : ℕ) {r : ℕ} {left : Monitor} → r ≡ first (leb P.skids s gives 21 ∷ [])
@@ -159,6 +173,16 @@ module _ (m : Monitor) (i : intact m.plant m ≡ true) (s o r : ℕ) {x : ℕ} (
 
       pub gate_by_grants : {held : Bool} → held ≡ granted_in m.plant.tank_group granted m.chosen s o r → Does m (gate s o r) (cond held 0 33) m
       gate_by_grants k = tells (k ∙ granted_told)
+
+-- a gate whose check accepts: `at` is its skid as an index
+pub gate_bounds : (tested : Tested) (s o r : ℕ) → ((vs : ℕ → View) → 0 ≡ refusal tested.monitor.plant vs (gate s o r)) → {at : ℕ} → at ≡ s → (at < 8) × (o < 64)
+gate_bounds tested s o r e w = rw w (items_fit tested.monitor tested.passes_test_20 s o r e refl).0
+
+-- a gate whose check refuses, with what `?` hands on
+pub gate_handed_on : (tested : Tested) (s o r : ℕ) (f : Refusal) → ((vs : ℕ → View) → number_of f ≡ refusal tested.monitor.plant vs (gate s o r))
+    → (outcome : Result Bool Refusal) → IsErr outcome × IsErrAnd outcome (λ x. x ≡ f) → Does tested.monitor (gate s o r) (gate_answer_of outcome) tested.monitor
+gate_handed_on tested s o r f e (Ok held) h = absurd h.1
+gate_handed_on tested s o r f e (Err x) h = rw h.1 (gate_refused tested.monitor tested.passes_test_20 s o r e (number_not_0 f))
 
 -- a request of no known kind
 pub unknown_does : (m : Monitor) → Does m unknown 32 m

@@ -1,6 +1,5 @@
--- The rest of a start, behind 21 to 26: what it answers and stores is what the rules say. Assumes
--- nothing.
-use mathlib.Core.Path.{◌≡◌, refl, sym, ap, ◌∙◌}
+-- The rest of a start, behind 21 to 26: what it answers and stores is what the rules say. Assumes nothing.
+use mathlib.Core.Path.{◌≡◌, refl, sym, ap}
 use Prim.Native.Nat.{ℕ, ◌*◌}
 use mathlib.Core.Bool.{true, false, cond}
 use mathlib.Core.List.{List}
@@ -13,15 +12,13 @@ use Rattle.base.specs.Chain.{Test, first}
 use Rattle.base.proofs.Chain.{Numbered, first_append}
 use Rattle.base.proofs.Logic.{split}
 use Rattle.rules.specs.declared.Monitor.{Monitor}
-use Rattle.rules.specs.Rules.{start, conditions, refusal, accepted_answer, pick_for}
+use Rattle.rules.specs.Rules.{start, conditions, refusal, pick_for}
 use Rattle.rules.specs.Record.{view_of, fill_from, changed, intact, with_task}
 use Rattle.calls.specs.Work.{early_tests, get_row}
-use Rattle.calls.specs.Lent.{Does}
 use Rattle.calls.specs.Start.{late_tests, wish_of, LateDone}
 use Rattle.calls.proofs.Rows.{row_same}
 use Rattle.calls.proofs.Views.{running_is}
 use Rattle.calls.proofs.Late.{RowChosen}
-use Rattle.calls.proofs.Steps.{does}
 
 -- the rules' conditions up to 26
 abbrev early_conditions : Monitor → ℕ → ℕ → List Test
@@ -44,10 +41,6 @@ module _ (m : Monitor) (i : intact m.plant m ≡ true) (s t : ℕ) where
   pub number_is : cond (eqb early 0) (first (late_tests m s t)) early ≡ refusal m.plant (view_of m.plant m) (start s t)
   unfolding refusal conditions
   number_is = rw early_is (sym (first_append (early_conditions m s t) (late_tests m s t) in_order))
-
-  pub done_late : {r : ℕ} → r ≡ early → r ≡ 0 → {n : ℕ} {left : Monitor} → LateDone m s t n left → Does m (start s t) n left
-  unfolding accepted_answer
-  done_late e z d = does m (start s t) refl (d.answers ∙ (rw (← e, z) at number_is)) d.leaves
 
 -- the late conditions and the storing
 module _ {m : Monitor} {s t : ℕ} where

@@ -1,4 +1,4 @@
--- What a start finds at its groups and stores, for every record that has what is lent to its parts.
+-- What a start finds at its groups and what it stores, on the record that is lent to it.
 use Rattle.std.specs.Prelude.{◌≡◌, ◌≢◌, ℕ, ◌<◌, true, cond, List, Option, eqb, get_or, drop}
 use Rattle.base.specs.Chain.{Test, first}
 use Rattle.plant.specs.declared.Plant.{Plant}

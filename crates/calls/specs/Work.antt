@@ -58,6 +58,10 @@ pub record Needed (P : Plant) (needs : List (Option ℕ)) : Type 0 where
   pub size : length needs ≡ 16
   pub right : (t : ℕ) → t < 16 → IfSome (get_or needs t None) (NeedOf P t)
 
+-- set's conditions before the level: whether its items are there
+abbrev pub set_items : Plant → ℕ → ℕ → ℕ → List Test
+set_items P s t d = leb P.skids s gives 21 ∷ leb P.tasks t gives 22 ∷ leb P.requirements d gives 23 ∷ []
+
 -- start's conditions: those that are asked before any group is looked at
 abbrev pub early_tests : List ℕ → List ℕ → ℕ → ℕ → ℕ → ℕ → List Test
 early_tests may running skids tasks s t =
@@ -103,7 +107,3 @@ Reached requirement levels s t need = (g : ℕ) → bit need g ≡ true → (g <
 -- an entry of a row of choices
 abbrev pub get_row : List ℕ → ℕ → ℕ
 get_row row g = get_or row g 0
-
--- the level that a skid has for a group's requirement is unset or a level
-abbrev pub wish_known : List ℕ → List ℕ → ℕ → ℕ → ℕ → Bool
-wish_known requirement levels s t g = level_known levels s t (get_or requirement g 0)

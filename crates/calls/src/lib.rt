@@ -1,5 +1,4 @@
-// A call and the request that asks for it, what the work of each call promises on the parts of a record that are lent to it, and the laws by which it
-// keeps that.
+// A call and the request that asks for it, what the work of each call promises of the record that is lent to it, and the laws by which it keeps that.
 #![tactic(auto)]
 
 ghost use Rattle.std.specs.Prelude.{◌≡◌, ◌≤◌, map};
@@ -10,6 +9,7 @@ ghost use Rattle.rules.specs.Record.{fresh};
 ghost use Rattle.calls.specs.Lent.{Keeps};
 ghost use Rattle.calls.specs.Requests.{AsksFor, RequestFor, OfBytes, missing_item};
 
+use choice::Choices;
 use refusal::Refusal;
 
 // A request as a queue, a batch and C have it. Kind 0 is set, 1 start, 2 stop, 3 gate, as include/permits.h numbers them; each number stands once in
@@ -22,6 +22,11 @@ pub struct Request {
     pub b: u8,
     pub c: u8,
     pub d: u8,
+}
+
+impl Request {
+    // How many bytes a request is in a batch.
+    pub const BYTES: usize = 5;
 }
 
 #[derive(Clone, Copy, Debug, PartialEq, Eq)]
@@ -46,10 +51,10 @@ pub enum Call {
     },
 }
 
-impl From<[u8; 5]> for Request {
+impl From<[u8; Request::BYTES]> for Request {
     ghost from_gives = { OfBytes };
 
-    fn from([kind, a, b, c, d]: [u8; 5]) -> Request {
+    fn from([kind, a, b, c, d]: [u8; Request::BYTES]) -> Request {
         Request { kind, a, b, c, d }
     }
 }
@@ -126,14 +131,14 @@ impl From<Call> for Request {
 
 // What a list keeps beside its record, from one request to the next: the table of choices, the groups of each task, and the rights of the tasks that
 // run. The three go by different items, so that no two of them are one array.
-#[derive(Clone, Copy)]
+#[derive(Clone, Copy, Default)]
 pub struct Kept {
-    // None until a start makes it. It has a row for each group, with the choice under each level.
-    pub made: Option<[[Option<u8>; 16]; 8]>,
+    // None until a start makes it.
+    pub made: Option<Choices>,
     // None until a start of the task makes it.
     pub needs: [Option<u16>; 16],
     // Those of skid s on group g are at s * 8 + g, where the record has the tank chosen there: a gate works out one place for both, and `put_row`
-    // (crate steps) writes a row of either. As `[[u8; 8]; 8]` a gate would read its two bytes at places of two forms.
+    // (crate steps) writes a row of either. `[[u8; 8]; 8]` is no plainer: a gate would read its two bytes at places of two forms.
     pub granted: [u8; 64],
 }
 
@@ -142,18 +147,14 @@ impl Kept {
     pub fn new() -> Kept
         ensures { (P : Plant) → P.skids ≤ 8 → Keeps (fresh P) result }
     {
-        Kept {
-            made: None,
-            needs: [None; 16],
-            granted: [0; 64],
-        }
+        Kept::default()
     }
 }
 
-// The refusal of the first of three items that is missing; `missing` has that of each that is. The three are tested at once before, so that a call
-// whose items are there asks once: of a number that is made first and then compared with 0 each gate takes twelve instructions more, where a mixed
-// request of a batch on 01's plant is one instruction under the baseline's, which is its bar. A start has two items, and two tests that read the
-// record at them, so it asks with an `if` for each of the four.
+// The refusal of the first of three items that is missing; `missing` has that of each that is. First one test of all three, so that a call whose items
+// are there asks once: where the refusal is chosen first and then tested, each gate takes twelve instructions more, and a mixed request of a batch on 01's
+// plant is only one under the baseline's, which is its bar. A start has two items, and two tests that read the record at them, so it asks with an `if`
+// for each of the four.
 pub fn check_present(missing: [Option<Refusal>; 3]) -> Result<(), Refusal>
     ensures { answer_of result ≡ first (map missing_item missing) }
 {

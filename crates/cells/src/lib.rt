@@ -74,30 +74,50 @@ pub struct Field {
     pub ghost some: { 0 < run },
 }
 
-// Where cell k of the records of a part stands, and that it lies within them. Every reader of a section takes its bounds from here. That a field
-// lies within a part is a clause of the readers of any part; for a section of a file `SectionField` has it.
-fn place_of<T: Cell>(part: Part, field: Field, k: usize) -> usize
-    requires within { field.from + field.run * T.WIDTH ≤ part.width }
-    requires in_range { k < part.count * field.run }
-    ensures { (result ≡ place part.entry.width field.from field.run T.WIDTH k) × (result + T.WIDTH ≤ length part.entry.bytes.now) }
-{
-    k / field.run * part.width + (field.from + k % field.run * T::WIDTH)
+// A field of the records of a part, with the type of the number that a cell holds: it lies within each record.
+#[derive(Drop)]
+pub struct PartField<'a, T: Cell> {
+    pub part: Part<'a>,
+    pub field: Field,
+    pub number: PhantomData<T>,
+    pub ghost within: { field.from + field.run * T.WIDTH ≤ part.width },
 }
 
-// A field of the records of a part, with zeros behind it. By the cell's number, from which its place follows: `iter_mut().enumerate()` is no plainer.
-pub fn read_cells<T: Cell, const N: usize>(part: Part, field: Field) -> [T; N]
-    requires within { field.from + field.run * T.WIDTH ≤ part.width }
-    requires room { part.count * field.run ≤ N }
-    ensures { let p = part.entry in result ≡ cells_of T.number_at T.WIDTH p.bytes.now p.width field.from field.run p.count (replicate N T.ZERO) }
-{
-    let mut cells = [T::ZERO; N];
-    for k in 0..part.count * field.run {
-        cells[k] = T::read(part.bytes, place_of::<T>(part, field, k));
+impl<'a, T: Cell> PartField<'a, T> {
+    // Where cell k stands. Every reader of a section takes its bounds from here.
+    fn place_of(&self, k: usize) -> usize
+        requires { k < self.now.part.count * self.now.field.run }
+        ensures { let p = self.now.part in let f = self.now.field in
+            (result ≡ place p.width f.from f.run T.WIDTH k) × (result + T.WIDTH ≤ length p.bytes.now) }
+    {
+        k / self.field.run * self.part.width + (self.field.from + k % self.field.run * T::WIDTH)
     }
-    cells
+
+    // The number in cell k.
+    fn cell(&self, k: usize) -> T
+        requires { k < self.now.part.count * self.now.field.run }
+        ensures { let p = self.now.part in let f = self.now.field in result ≡ T.number_at p.bytes.now (place p.width f.from f.run T.WIDTH k) }
+    {
+        T::read(self.part.bytes, self.place_of(k))
+    }
+
+    // All cells, with zeros behind them. A loop over those that are there: `array::from_fn` goes over all N, and by it opening 01's plant takes 2,700
+    // instructions more, half as much again.
+    pub fn cells<const N: usize>(&self) -> [T; N]
+        requires { self.now.part.count * self.now.field.run ≤ N }
+        ensures { let p = self.now.part in let f = self.now.field in
+            result ≡ cells_of T.number_at T.WIDTH p.bytes.now p.width f.from f.run p.count (replicate N T.ZERO) }
+    {
+        let n = self.part.count * self.field.run;
+        let mut cells = [T::ZERO; N];
+        for (k, cell) in cells[..n].iter_mut().enumerate() {
+            *cell = self.cell(k);
+        }
+        cells
+    }
 }
 
-// A field of the records of one section, with the type of the number that a cell holds: it lies within each of them.
+// A field of the records of one section, of whatever file: a constant has no part, and `read_field` makes a `PartField` of it where the file is there.
 #[derive(Drop)]
 pub struct SectionField<T: Cell> {
     pub section: Section,
@@ -106,12 +126,18 @@ pub struct SectionField<T: Cell> {
     pub ghost within: { field.from + field.run * T.WIDTH ≤ width (section_number section) },
 }
 
-// The same of a section of a file.
+// The cells of a section of a file, with zeros behind them.
 pub fn read_field<T: Cell, const N: usize>(file: PlantFile, from: SectionField<T>) -> [T; N]
     requires { limit (section_number from.section) * from.field.run ≤ N }
-    ensures { let k = section_number from.section in result ≡ section_cells T.number_at T.WIDTH file.entry.header.file.now k from.field.from from.field.run (replicate N T.ZERO) }
+    ensures { let k = section_number from.section in
+        result ≡ section_cells T.number_at T.WIDTH file.entry.header.file.now k from.field.from from.field.run (replicate N T.ZERO) }
 {
-    read_cells(file.part(from.section), from.field)
+    let field: PartField<T> = PartField {
+        part: file.part(from.section),
+        field: from.field,
+        number: PhantomData,
+    };
+    field.cells()
 }
 
 // Whether byte `from` of each record of a part is zero.
@@ -119,6 +145,10 @@ pub fn zeros_at(part: Part, from: usize) -> bool
     requires { from < part.width }
     ensures { let p = part.entry in result ≡ zeros_at p.bytes.now p.width from p.count }
 {
-    let byte = Field { from, run: 1 };
-    (0..part.count).all(|k| part.bytes[place_of::<u8>(part, byte, k)] == 0)
+    let field: PartField<u8> = PartField {
+        part,
+        field: Field { from, run: 1 },
+        number: PhantomData,
+    };
+    (0..part.count).all(|k| field.cell(k) == 0)
 }

@@ -35,6 +35,7 @@ fn lower(a: Result<(), Refusal>, b: Result<(), Refusal>) -> Result<(), Refusal>
 
 // 7 to 9, of all lattices: 8 of one comes before 9 of another. A loop: by `.fold(..)` it was proved too, but that proof wants laws of the range and of the
 // closure's calls beside those of the lattices, and is longer than the loop's.
+#[tactic(auto, using(plant::proofs::Sequence::first_none, plant::proofs::Sequence::first_more, plant::proofs::Sequence::first_all))]
 fn check_lattices(counted: &Counted) -> Result<(), Refusal>
     ensures { answer_of result ≡ lattices_refusal counted.now.plant.now }
 {
@@ -48,7 +49,7 @@ fn check_lattices(counted: &Counted) -> Result<(), Refusal>
 
 // Checks 3 and 7 to 12 of a plant record. The two tests say whether the bytes of the file that are always zero are: those of the lattice records,
 // and those of the others. A record has no such bytes.
-#[tactic(auto, using(plant::proofs::Sequence::fits_behind), unfolding(plant::specs::Checks::plant_refusal, plant::specs::Checks::lattices_refusal, plant::specs::Checks::items_refusal))]
+#[tactic(auto, using(plant::proofs::Sequence::fits_behind, plant::proofs::Sequence::refused_lattice, refusal::proofs::NotZero::handed_on, refusal::proofs::NotZero::not_0), unfolding(plant::specs::Checks::plant_refusal, plant::specs::Checks::lattices_refusal, plant::specs::Checks::items_refusal))]
 pub fn check_plant(p: &Plant, lattice_zeros: bool, other_zeros: bool) -> Result<(), Refusal>
     ensures { answer_of result ≡ plant_refusal lattice_zeros other_zeros p.now }
 {

@@ -1,5 +1,6 @@
 // The row of tanks that a start chooses: the groups that its task needs, and the tank for each.
-// The bound of an index is a clause and no type: a type would be made of a number at each call and taken apart at each array.
+// The bound of an index is a clause and no type: a type would be made of a number at each call and taken apart at each array. That a plant has at most
+// eight groups is a clause too, at `need_of` and `need_once`: a `Tested` has it, and would ask for all of test 20.
 #![tactic(auto)]
 
 ghost use Rattle.std.specs.Prelude.{◌≡◌, ◌<◌, ◌≤◌};
@@ -9,13 +10,14 @@ ghost use Rattle.choice.specs.Choice.{if_set};
 ghost use Rattle.choice.specs.Table.{made_at};
 ghost use Rattle.calls.specs.Work.{wish_in, NeedOf, Needed, Reached, RowDone};
 
+use choice::Choices;
 use plant::Plant;
 use refusal::Refusal;
 use rules::{Monitor, NONE};
 use sets::{Members, with_one};
 
-// The groups on which task t names a right, as a set. It is not inlined: a list calls it once for each task, and its loop would take registers from
-// each request.
+// The groups on which task t names a right, as a set. A loop: by `filter` and `fold` its proof wants laws of the range, of the filter and of the closure,
+// where the loop's is one line. It is not inlined: a list calls it once for each task, and its loop would take registers from each request.
 #[inline(never)]
 pub fn need_of(p: &Plant, t: usize) -> u16
     requires { (t < 16) × (p.now.groups ≤ 8) }
@@ -44,36 +46,38 @@ pub fn need_once(p: &Plant, needs: &mut [Option<u16>; 16], t: usize) -> u16
     )
 }
 
-// The level that the skid has in the task for the requirement of group g, if it is set.
-pub fn level_for(m: &Monitor, s: usize, t: usize, g: usize) -> Option<usize>
-    requires s_bound { (s < 8) × (t < 16) × (g < 8) }
-    requires g_bound { requirement_of m.now.plant g < 8 }
-    ensures { result ≡ if_set (wish_in m.now.plant.group_requirement m.now.levels s t g) }
-{
-    let d = usize::from(m.plant.group_requirement[g]);
-    m.level(s, t, d).map(usize::from)
+// A start that has passed 26: its skid, its task, and the groups on which the task names a right, as a set.
+#[derive(Clone, Copy)]
+pub struct Start {
+    pub skid: u8,
+    pub task: u8,
+    pub need: u16,
+    pub ghost in_range: { (skid < 8) × (task < 16) },
 }
 
-// The skid's row of choices for the groups of the set `need`; the others have `NONE`, as the record does, which C reads. A level that is not set in
+impl Start {
+    // The level that the skid has in the task for the requirement of group g, if it is set.
+    pub fn level(&self, m: &Monitor, g: usize) -> Option<usize>
+        requires { (g < 8) × (requirement_of m.now.plant g < 8) }
+        ensures { result ≡ if_set (wish_in m.now.plant.group_requirement m.now.levels self.now.skid self.now.task g) }
+    {
+        let d = m.plant.requirement_of(g);
+        m.level(usize::from(self.skid), usize::from(self.task), d)
+            .map(usize::from)
+    }
+}
+
+// The skid's row of choices for the groups that the task needs; the others have `NONE`, as the record does, which C reads. A level that is not set in
 // any group comes before a tank that is missing in any, so that the first alone ends the loop. It goes from group to group of the set, since which
 // groups a task needs cannot be predicted.
-pub fn choose_row(
-    m: &Monitor,
-    made: &[[Option<u8>; 16]; 8],
-    s: usize,
-    t: usize,
-    need: u16,
-) -> Result<[u8; 8], Refusal>
-    requires s_bound { (s < 8) × (t < 16) }
-    requires reached { Reached m.now.plant.group_requirement m.now.levels s t need }
-    ensures { RowDone (made_at made.now) m.now.plant.group_requirement m.now.levels s t (bit need) 8 result }
+pub fn choose_row(m: &Monitor, made: &Choices, start: &Start) -> Result<[u8; 8], Refusal>
+    requires { Reached m.now.plant.group_requirement m.now.levels start.now.skid start.now.task start.now.need }
+    ensures { RowDone (made_at made.now) m.now.plant.group_requirement m.now.levels start.now.skid start.now.task (bit start.now.need) 8 result }
 {
     let mut row = [NONE; 8];
     let mut lacking = false;
-    for g in Members::of(need) {
-        let Some(v) = level_for(m, s, t, g) else {
-            return Err(Refusal::LevelNotSet);
-        };
+    for g in Members::of(start.need) {
+        let v = start.level(m, g).ok_or(Refusal::LevelNotSet)?;
         match made[g][v] {
             Some(o) => row[g] = o,
             None => lacking = true,

@@ -16,24 +16,6 @@ fn all_below(entries: &[u8], bound: u8) -> bool
     entries.iter().all(|entry| *entry < bound)
 }
 
-// Each requirement's lattice and each group's requirement is there. `Fits` is a clause here and no method's fact, of which the check does not find the
-// proof.
-#[tactic(auto, using(plant::proofs::Links::links_in, plant::proofs::Links::front_below))]
-fn links_fit(p: &Plant) -> bool
-    requires { Fits p.now }
-    ensures tested { result
-        ≡ all_below (entry_below p.now.requirement_lattice p.now.lattices) p.now.requirements && all_below (entry_below p.now.group_requirement p.now.requirements) p.now.groups }
-    ensures links_in { result ≡ true → LinksIn p.now }
-{
-    all_below(
-        &p.requirement_lattice[..usize::from(p.requirements)],
-        p.lattices,
-    ) && all_below(
-        &p.group_requirement[..usize::from(p.groups)],
-        p.requirements,
-    )
-}
-
 // A plant whose counts are within its record.
 #[derive(Clone, Copy)]
 pub struct Counted<'a> {
@@ -42,26 +24,22 @@ pub struct Counted<'a> {
 }
 
 impl<'a> Counted<'a> {
-    // A tank is judged in the lattice of its group's requirement.
-    fn tank_fits(&self, o: usize) -> bool
-        requires links_in { LinksIn self.now.plant.now }
-        requires tank_in { o < 64 }
-        ensures { result ≡ tank_fits self.now.plant.now o }
+    // Each requirement's lattice and each group's requirement is there.
+    #[tactic(auto, using(plant::proofs::Links::links_in, plant::proofs::Links::front_below))]
+    fn links_fit(&self) -> bool
+        ensures tested { let p = self.now.plant.now in result
+            ≡ all_below (entry_below p.requirement_lattice p.lattices) p.requirements
+            && all_below (entry_below p.group_requirement p.requirements) p.groups }
+        ensures links_in { result ≡ true → LinksIn self.now.plant.now }
     {
         let p = self.plant;
-        let group = p.tank_group[o];
-        if p.groups <= group {
-            return false;
-        }
-        let requirement = p.group_requirement[usize::from(group)];
-        p.tank_level[o] < p.levels_of(usize::from(requirement))
-    }
-
-    fn tanks_fit(&self) -> bool
-        requires { LinksIn self.now.plant.now }
-        ensures { result ≡ all_below (tank_fits self.now.plant.now) self.now.plant.now.tanks }
-    {
-        (0..usize::from(self.plant.tanks)).all(|o| self.tank_fits(o))
+        all_below(
+            &p.requirement_lattice[..usize::from(p.requirements)],
+            p.lattices,
+        ) && all_below(
+            &p.group_requirement[..usize::from(p.groups)],
+            p.requirements,
+        )
     }
 
     // 10, of all entries.
@@ -69,6 +47,37 @@ impl<'a> Counted<'a> {
     pub fn numbers_ok(&self) -> bool
         ensures { result ≡ numbers_ok self.now.plant.now }
     {
-        links_fit(self.plant) && self.tanks_fit() && tasks_fit(self.plant) && skids_fit(self.plant)
+        if !self.links_fit() {
+            return false;
+        }
+        let linked = Linked { plant: self.plant };
+        linked.tanks_fit() && tasks_fit(self.plant) && skids_fit(self.plant)
+    }
+}
+
+// A plant that has its links too: the lattice of each requirement and the requirement of each group are there.
+#[derive(Clone, Copy)]
+struct Linked<'a> {
+    plant: &'a Plant,
+    ghost fits: { Fits plant.now },
+    ghost links_in: { LinksIn plant.now },
+}
+
+impl<'a> Linked<'a> {
+    // A tank is judged in the lattice of its group's requirement.
+    fn tank_fits(&self, o: usize) -> bool
+        requires { o < 64 }
+        ensures { result ≡ tank_fits self.now.plant.now o }
+    {
+        let p = self.plant;
+        let group = p.group_of(o);
+        group < usize::from(p.groups)
+            && p.level_of(o) < usize::from(p.levels_of(p.requirement_of(group)))
+    }
+
+    fn tanks_fit(&self) -> bool
+        ensures { result ≡ all_below (tank_fits self.now.plant.now) self.now.plant.now.tanks }
+    {
+        (0..usize::from(self.plant.tanks)).all(|o| self.tank_fits(o))
     }
 }

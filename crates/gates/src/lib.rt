@@ -1,5 +1,7 @@
 // The work of a gate on a record that has passed test 20: by the record, or in a list by the rights granted.
 // The bound of an index is a clause and no type: a type would be made of a number at each call and taken apart at each array.
+// Skid, tank and right (s, o, r) are together in `Call::Gate` and no struct here: each is looked up by itself. A struct of the three is no plainer:
+// it would be made in each arm of a call and for each entry of the list of rights, and taken apart at each test.
 #![tactic(auto)]
 
 ghost use Rattle.std.specs.Prelude.{◌≡◌, true, ℕ, ◌<◌, get_or};
@@ -11,7 +13,7 @@ ghost use Rattle.calls.specs.Work.{task_known, Granted, granted_in, held_in};
 use calls::check_present;
 use plant::{Plant, Right};
 use refusal::Refusal;
-use rules::{Monitor, Tested};
+use rules::{Monitor, Tested, chosen_at};
 
 // Whether the skid, the tank and the right of a gate are there.
 fn check_gate(p: &Plant, s: u8, o: u8, r: u8) -> Result<(), Refusal>
@@ -51,15 +53,16 @@ pub fn gate_granted(
 }
 
 // Whether skid s holds right r on tank o, by the rights granted. Both halves are read without a branch, since the processor cannot predict the
-// answer; they stand at one place, which `Monitor::tank` would work out again. `is_held` reads four arrays where this reads two, in steps that it
-// may leave, so that the two share no line but the comparison. One reading of the record for both takes each gate of a list seven instructions more;
-// as more than half of a mixed list are gates, a mixed request of a batch would take more than the baseline, its bar.
+// answer; they stand at one place, which `Monitor::tank` would work out again. It shares with `is_held` the lookup of the tank's group, the test of the
+// right and the comparison of the tank; between them `is_held` reads the running task and the task's rights, in steps that it may leave. One reading of
+// the record for both takes each gate of a list seven instructions more; as more than half of a mixed list are gates, a mixed request of a batch would
+// take more than the baseline, its bar.
 fn is_granted(m: &Monitor, granted: &[u8; 64], s: usize, o: u8, r: u8) -> bool
     requires s_bound { (s < 8) × (o < 64) }
     requires o_bound { get_or m.now.plant.tank_group o 0 < 8 }
     ensures { result ≡ granted_in m.now.plant.tank_group granted.now m.now.chosen s o r }
 {
-    let at = s * 8 + usize::from(m.plant.tank_group[usize::from(o)]);
+    let at = chosen_at(s, m.plant.group_of(usize::from(o)));
     let x = granted[at];
     (m.chosen[at] == o) & (x & Right::mask(r) != 0)
 }
@@ -71,13 +74,8 @@ pub fn is_held(m: &Monitor, s: usize, o: u8, r: u8) -> bool
     requires o_bound { (get_or m.now.plant.tank_group o 0 < 8) × (task_known m.now.running s ≡ true) }
     ensures { result ≡ held_in m.now.plant.tank_group m.now.plant.task_rights m.now.running m.now.chosen s o r }
 {
-    let Some(t) = m.task(s) else {
-        return false;
-    };
-    let g = usize::from(m.plant.tank_group[usize::from(o)]);
-    let x = m.plant.rights_of(usize::from(t), g);
-    if x & Right::mask(r) == 0 {
-        return false;
-    }
-    m.tank(s, g) == o
+    m.task(s).is_some_and(|t| {
+        let g = m.plant.group_of(usize::from(o));
+        m.plant.rights_of(usize::from(t), g) & Right::mask(r) != 0 && m.tank(s, g) == Some(o)
+    })
 }

@@ -2,7 +2,7 @@
 #![tactic(auto)]
 
 ghost use Rattle.std.specs.Prelude.{◌≡◌, ◌+◌, ◌*◌, ◌<◌, ◌≤◌, length};
-ghost use Rattle.layout.specs.Layout.{word_at, header_bytes, length_at, width, limit, count, offset, end};
+ghost use Rattle.layout.specs.Layout.{word_at, header_bytes, length_at, width, count, offset, end};
 ghost use Rattle.layout.specs.Section.{section_number};
 ghost use Rattle.layout.specs.Header.{length_ok, edition_ok, count_ok, counts_ok, zeros_ok};
 
@@ -10,7 +10,7 @@ use layout::Section;
 
 pub const HEADER_BYTES: usize = 24;
 
-const FILE_LIMIT: usize = 4096;
+pub const FILE_LIMIT: usize = 4096;
 
 const EDITION: u8 = 1;
 
@@ -31,7 +31,7 @@ const BEHIND_LENGTH: usize = 22;
 // Bytes of a record, by section: the form that 01 names for the widths. Edition 2 adds a second row.
 const WIDTHS: [usize; 6] = [34, 2, 2, 2, 10, 2];
 
-// The most records, by section.
+// The most records, by section, in the same form.
 const LIMITS: [usize; 6] = [8, 8, 8, 64, 16, 8];
 
 pub fn width_of(section: Section) -> usize
@@ -49,20 +49,12 @@ pub fn word_at(bytes: &[u8], at: usize) -> u16
     u16::from_le_bytes([bytes[at], bytes[at + 1]])
 }
 
-// How long the file says that it is.
-pub fn length_said(file: &[u8]) -> usize
-    requires { header_bytes ≤ length file.now }
-    ensures { (result ≡ word_at file.now length_at) × (result < 65536) }
-{
-    usize::from(word_at(file, LENGTH_AT))
-}
-
 // 1: the length.
 #[tactic(auto, unfolding(layout::specs::Header::length_ok))]
 pub fn length_ok(file: &[u8]) -> bool
     ensures { result ≡ length_ok file.now }
 {
-    (HEADER_BYTES..=FILE_LIMIT).contains(&file.len()) && length_said(file) == file.len()
+    (HEADER_BYTES..=FILE_LIMIT).contains(&file.len()) && Header { file }.length_said() == file.len()
 }
 
 // 3: the counts.
@@ -73,7 +65,7 @@ pub fn count_ok(section: Section, count: usize) -> bool
     (1..=LIMITS[usize::from(section)]).contains(&count)
 }
 
-// A file with a whole header.
+// A file with a whole header, and maybe more bytes behind the file.
 #[derive(Clone, Copy)]
 pub struct Header<'a> {
     pub file: &'a [u8],
@@ -81,6 +73,13 @@ pub struct Header<'a> {
 }
 
 impl<'a> Header<'a> {
+    // How long the file says that it is.
+    pub fn length_said(self) -> usize
+        ensures { (result ≡ word_at self.entry.file.now length_at) × (result < 65536) }
+    {
+        usize::from(word_at(self.file, LENGTH_AT))
+    }
+
     // How many records a section has.
     pub fn count(self, section: Section) -> u8
         ensures { result ≡ count self.entry.file.now (section_number section) }
@@ -122,8 +121,6 @@ impl<'a> Header<'a> {
     pub fn zeros_ok(self) -> bool
         ensures { result ≡ zeros_ok self.entry.file.now }
     {
-        self.file[BEHIND_COUNTS] == 0
-            && self.file[BEHIND_LENGTH] == 0
-            && self.file[BEHIND_LENGTH + 1] == 0
+        self.file[BEHIND_COUNTS] == 0 && word_at(self.file, BEHIND_LENGTH) == 0
     }
 }

@@ -20,7 +20,8 @@ fn put_right(list: &mut Writer, skid: u8, tank: u8, right: u8)
     list.word(&[skid, tank, right]);
 }
 
-// A record whose rights are listed. The writer of the list is no field: a method that writes would have to promise that the record stays as it was.
+// A record whose rights are listed. The writer of the list is no field: a method that writes would have to promise that the record stays as it was,
+// which is longer.
 #[derive(Clone, Copy)]
 struct Held<'a> {
     monitor: &'a Monitor,
@@ -70,7 +71,8 @@ impl<'a> Held<'a> {
     }
 }
 
-// The list from the buffer's first byte on. The count stands in front of the rights, three bytes each, and is known once they are written.
+// The list from the buffer's first byte on. The count stands in front of the rights, three bytes each, and is known once they are written. That it is a byte
+// is proved: `try_from` would answer with an error that there cannot be.
 pub fn write_held(m: &Monitor, out: &mut [u8])
     requires known { Known m.now }
     requires in_bounds { 577 ≤ length out.old }

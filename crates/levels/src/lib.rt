@@ -1,5 +1,4 @@
 // The test of a lattice record: check 7, and with crates above and joins the number that refuses it.
-// The bound of an index is a clause and no type: a type would be made of a number at each turn and taken apart at the array.
 #![tactic(auto)]
 
 ghost use Rattle.std.specs.Prelude.{◌≡◌, ◌<◌, ◌≤◌};
@@ -13,20 +12,13 @@ use lattice::Lattice;
 use refusal::Refusal;
 use sets::none_from;
 
-// Set i has no bit from n on, and none at all where level i is not used.
-fn set_clear(lattice: &Lattice, i: usize) -> bool
-    requires { (lattice.now.n ≤ 16) × (i < 16) }
-    ensures { result ≡ set_clear lattice.now i }
-{
-    let x = lattice.sets[i];
-    none_from(x, lattice.n) && (i < usize::from(lattice.n) || x == 0)
-}
-
+// The set of a level has no bit from n on, and a set that is not used has none at all.
 fn sets_clear(lattice: &Lattice) -> bool
     requires { lattice.now.n ≤ 16 }
     ensures { result ≡ all_below (set_clear lattice.now) 16 }
 {
-    (0..16).all(|i| set_clear(lattice, i))
+    let (used, unused) = lattice.sets.split_at(usize::from(lattice.n));
+    used.iter().all(|x| none_from(*x, lattice.n)) && unused.iter().all(|x| *x == 0)
 }
 
 // 7: the record keeps its layout.

@@ -29,10 +29,7 @@ pub fn step(m: Monitor, r: Request) -> Answered
 {
     match check_intact(m) {
         Ok(tested) => answered(tested, r),
-        Err(refusal) => Answered {
-            answer: u8::from(refusal),
-            monitor: m,
-        },
+        Err(refusal) => Answered::refused(refusal, m),
     }
 }
 

@@ -21,15 +21,16 @@ pub struct Places<'a> {
     pub ghost known: { (g : ℕ) → g < 8 → PlacesOf plant.now g (get_or at_group g 0) },
 }
 
-// The levels at which each group has a tank. By the tank's number, at which two arrays are read: a `zip` of the two, cut to the count, is no plainer.
+// The levels at which each group has a tank.
 fn places_of(p: &Plant) -> [u16; 8]
     requires { TanksThere p.now }
     ensures { (g : ℕ) → g < 8 → PlacesOf p.now g (get_or result g 0) }
 {
     let mut places = [0u16; 8];
-    for o in 0..usize::from(p.tanks) {
-        let g = usize::from(p.tank_group[o]);
-        places[g] = with_one(places[g], usize::from(p.tank_level[o]));
+    let tanks = usize::from(p.tanks);
+    for (level, group) in p.tank_level[..tanks].iter().zip(&p.tank_group[..tanks]) {
+        let g = usize::from(*group);
+        places[g] = with_one(places[g], usize::from(*level));
     }
     places
 }
@@ -76,9 +77,8 @@ impl<'a> Places<'a> {
         ensures { (v : ℕ) → bit result v ≡ group_near self.now.plant.now (group_of self.now.plant.now o) v o }
     {
         let p = self.plant;
-        let g = usize::from(p.tank_group[o]);
-        let l = usize::from(p.requirement_lattice[usize::from(p.group_requirement[g])]);
-        let x = usize::from(p.tank_level[o]);
-        nearest_for(p, l, self.at_group[g], x)
+        let g = p.group_of(o);
+        let l = p.lattice_of(p.requirement_of(g));
+        nearest_for(p, l, self.at_group[g], p.level_of(o))
     }
 }

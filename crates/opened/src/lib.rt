@@ -13,13 +13,10 @@ pub fn open(file: &[u8]) -> Answered
     ensures { result ≡ opened_of file.now }
 {
     match read(file) {
-        Ok(plant) => Answered {
+        Ok(checked) => Answered {
             answer: 0,
-            monitor: fresh_monitor(plant),
+            monitor: fresh_monitor(checked.plant),
         },
-        Err(refusal) => Answered {
-            answer: u8::from(refusal),
-            monitor: zero_monitor(),
-        },
+        Err(refusal) => Answered::refused(refusal, zero_monitor()),
     }
 }

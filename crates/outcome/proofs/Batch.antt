@@ -119,7 +119,7 @@ module _ (plant requests out : List ℕ) where
       let A = admits e in
       let p : Plant = P plant requests out in
       let cs : List Call = calls plant requests out in
-      let q = plant_passes plant refl (zero A.plant_admitted) in
+      let q = plant_passes plant (zero A.plant_admitted) in
       let W = (opens plant).sound A.plant_admitted in
       let a : length (history_answers p [] cs) ≡ n = answered p q W cs ∙ calls_length requests n in
       let l : List HeldRight = held plant requests out in

@@ -17,8 +17,7 @@ use Rattle.rules.specs.Record.{fresh, view_of, intact, final}
 use Rattle.rules.specs.Run.{runs, ends}
 use Rattle.rules.specs.History.{history_view, history_answers, history}
 use Rattle.rules.proofs.Agree.{fresh_agree, list_agree, list_replies}
-use Rattle.calls.specs.RequestBytes.{calls_of}
-use Rattle.calls.proofs.Served.{once, still_intact, runs_length, calls_length}
+use Rattle.calls.proofs.Served.{once, still_intact, runs_length}
 use Rattle.listing.specs.Held.{HeldRight, rights_held, listing}
 use Rattle.listing.specs.Work.{Known, list_bytes_in}
 use Rattle.listing.proofs.Listed.{known, written_listing}
@@ -43,26 +42,23 @@ module _ (P : Plant) (q : plant_refusal true true P ≡ 0) (cs : List Call) wher
       ap₂ (λ (l : List ℕ) (vs : ℕ → View). l ++ listing (rights_held P vs)) same_answers (ap (view_of P) (e ∙ sym (once P q cs).same_record))
       ∙ ap (λ (l : List HeldRight). history_answers P [] cs ++ listing l) same_rights
 
--- n requests were served, and this is the record after them
-module _ (P : Plant) (q : plant_refusal true true P ≡ 0) (bytes : List ℕ) (n : ℕ) {m : Monitor} (e : m ≡ ends (fresh P) (calls_of bytes n)) where
-  abbrev cs : List Call
-  cs = calls_of bytes n
-
+-- n calls were served, and this is the record after them
+module _ (P : Plant) (q : plant_refusal true true P ≡ 0) (cs : List Call) {m : Monitor} (e : m ≡ ends (fresh P) cs) where
   own_plant : m.plant ≡ P
   unfolding fresh
   own_plant = ap (λ (x : Monitor). x.plant) e ∙ (once P q cs).same_plant
 
   i : intact m.plant m ≡ true
-  i = still_intact P q bytes n e
+  i = still_intact P q cs e
 
   pub rights_known : Known m
   rights_known = known m i
 
-  answered : length (runs (fresh P) cs) ≡ n
-  answered = runs_length cs (fresh P) ∙ calls_length bytes n
-
   -- out₁ is the buffer with the answers in it
-  module _ (out : List ℕ) {out₁ : List ℕ} (r : n + 577 ≤ length out) (h : out₁ ≡ overlay out 0 (runs (fresh P) cs)) where
+  module _ (out : List ℕ) {out₁ : List ℕ} {n : ℕ} (l : length cs ≡ n) (r : n + 577 ≤ length out) (h : out₁ ≡ overlay out 0 (runs (fresh P) cs)) where
+    answered : length (runs (fresh P) cs) ≡ n
+    answered = runs_length cs (fresh P) ∙ l
+
     as_long : length out₁ ≡ length out
     as_long = ap length h ∙ overlay_length out 0 (runs (fresh P) cs) (omega (arith, answered))
 

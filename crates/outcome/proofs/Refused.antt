@@ -1,5 +1,5 @@
 -- The number that refuses a batch, test by test, and the buffer that goes with it. Assumes nothing.
-use mathlib.Core.Path.{◌≡◌, refl, sym, ap, subst, ◌∙◌}
+use mathlib.Core.Path.{◌≡◌, refl, sym, subst, ◌∙◌}
 use mathlib.Core.Logic.{◌≢◌}
 use Prim.Native.Nat.{ℕ, ◌+◌, ◌/◌, ◌%◌, ◌≤◌, ◌<◌}
 use mathlib.Core.Bool.{Bool, true, cond}
@@ -8,12 +8,16 @@ use native.Mathlib.Omega.{arith}
 use lib.Dec.{eqb}
 use lib.ListN.{length}
 use borrow.Author.Tests.{eqb-true, eqb-false, ne_eqb, lt-ltb, le-ltb, ltb-false, not-false}
+use Rattle.std.specs.Prelude.{Result}
+use Rattle.std.specs.Result.{IsErr, IsErrAnd}
 use Rattle.base.specs.Chain.{first}
 use Rattle.base.specs.Overlay.{overlay}
 use Rattle.base.proofs.Logic.{split}
 use Rattle.base.proofs.Chain.{first_append, clear}
-use Rattle.opening.specs.Reading.{Reading, opening_checks, opening_refusal, reading_of}
-use Rattle.plant.specs.declared.Plant.{Plant}
+use Rattle.refusal.specs.declared.Refusal.{Refusal}
+use Rattle.refusal.specs.Number.{number_of, answer_of}
+use Rattle.refusal.proofs.NotZero.{handed_on, not_0}
+use Rattle.opening.specs.Reading.{opening_checks, opening_refusal, reading_of}
 use Rattle.plant.specs.Checks.{plant_refusal}
 use Rattle.plant.proofs.Sound.{sound_law}
 use Rattle.opening.proofs.Opening.{opens}
@@ -38,14 +42,13 @@ module _ (plant requests : List ℕ) where
     unfolding batch_out
     unwritten {k} e n = (e, rw (← e, ne_eqb k 0 n))
 
+    -- a check refuses, and `?` hands that on
+    pub refused : {A : Type 0} (r : Result A Refusal) (e : Refusal) → IsErr r × IsErrAnd r (λ x. x ≡ e) → number_of e ≡ batch_refusal plant requests (length out) → (answer_of r ≡ batch_refusal plant requests (length out)) × (out ≡ batch_out plant requests out)
+    refused r e h n = unwritten (handed_on r e h ∙ n) (λ z. not_0 e (sym (handed_on r e h) ∙ z))
+
     pub written : {out' : List ℕ} → 0 ≡ batch_refusal plant requests (length out) → out' ≡ overlay out 0 (outcome (reading_of plant).plant (batch_calls requests)) → (0 ≡ batch_refusal plant requests (length out)) × (out' ≡ batch_out plant requests out)
     unfolding batch_out
     written e h = (e, h ∙ rw (← e))
-
-  -- r is what the reader returned, and k the number made of it
-  module _ {r : Reading} (e : r ≡ reading_of plant) (room : ℕ) where
-    pub refusal_by_lem : {k : ℕ} → k ≡ refusal_by r.answer (length requests) room → k ≡ batch_refusal plant requests room
-    refusal_by_lem h = h ∙ ap (λ (x : Reading). refusal_by x.answer (length requests) room) e ∙ sym (refusal_is room)
 
 -- each test of the number
 module _ (opening bytes room : ℕ) where
@@ -75,9 +78,6 @@ accepts opening bytes room {k} e z = split (eqb opening 0)
     record { opened = eqb-true _ 0 y; whole = eqb-true (bytes % 5) 0 (not-false _ c.0); room_enough = omega (arith, ltb-false room (bytes / 5 + 577) c.1.0) })
     (λ y. absurd (eqb-false _ 0 y (subst (λ (b : Bool). cond b (first (size_checks bytes room)) opening ≡ 0) y (sym e ∙ z))))
 
--- an accepted plant passes what the batch asks of one
-pub plant_passes : (plant : List ℕ) {r : Reading} → r ≡ reading_of plant → r.answer ≡ 0 → plant_refusal true true r.plant ≡ 0
-plant_passes plant e z = rw e ((sound_law (reading_of plant).plant).1 ((opens plant).sound ((opens plant).accepts.0 (sym (ap (λ (x : Reading). x.answer) e) ∙ z))))
-
-pub accepted_passes : (plant : List ℕ) {p : Plant} → p ≡ (reading_of plant).plant → 0 ≡ (reading_of plant).answer → plant_refusal true true p ≡ 0
-accepted_passes plant e z = rw e (plant_passes plant refl (sym z))
+-- a plant that opening accepts passes the checks of a record
+pub plant_passes : (plant : List ℕ) → (reading_of plant).answer ≡ 0 → plant_refusal true true (reading_of plant).plant ≡ 0
+plant_passes plant z = (sound_law (reading_of plant).plant).1 ((opens plant).sound ((opens plant).accepts.0 z))

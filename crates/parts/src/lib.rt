@@ -59,7 +59,8 @@ pub struct PlantFile<'a> {
     pub ghost placed: { header_refusal header.file.now ≡ 0 },
 }
 
-// The part of a file that a section fills: its records, how many they are, and how wide each is.
+// The part of a file that a section fills: its records, how many they are, and how wide each is. The count stands beside the bytes: else each reader
+// would divide for it, and by `chunks_exact` it would have the records and not the cells, whose places the layout counts through all records.
 #[derive(Clone, Copy)]
 pub struct Part<'a> {
     pub bytes: &'a [u8],
@@ -132,13 +133,10 @@ pub fn check_header(file: &[u8]) -> Result<PlantFile<'_>, Refusal>
 pub fn section_place(file: &[u8], kind: usize) -> Place
     ensures { result ≡ section_place file.now kind }
 {
-    let Ok(plant_file) = check_header(file) else {
-        return Place::default();
-    };
-    let Ok(section) = Section::try_from(kind) else {
-        return Place::default();
-    };
-    plant_file.place(section)
+    match (check_header(file), Section::try_from(kind)) {
+        (Ok(plant_file), Ok(section)) => plant_file.place(section),
+        _ => Place::default(),
+    }
 }
 
 // 01's section call: that part itself.

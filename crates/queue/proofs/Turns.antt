@@ -1,26 +1,23 @@
 -- The queue's loop in lists: after i requests the record is that of their calls, and the buffer begins with their answers. Assumes nothing.
 use mathlib.Core.Path.{◌≡◌, refl, sym, ap, ◌∙◌}
 use Prim.Native.Nat.{ℕ, suc, ◌+◌, ◌≤◌, ◌<◌}
-use native.Mathlib.Nat.{zero-add, le_antisymm}
-use native.Mathlib.Numerals.{add-one}
+use native.Mathlib.Nat.{le_antisymm}
 use native.Mathlib.Omega.{arith}
-use mathlib.Core.Bool.{true, not}
-use mathlib.Core.List.{List, [], ◌∷◌, ◌++◌, map, map-append}
-use lib.Dec.{ltb}
+use mathlib.Core.List.{List, [], ◌∷◌, ◌++◌, map}
 use lib.ListN.{length, get_or, take, set, length-map}
-use lib.Seq.{length-take-le, take-suc, take-length}
-use borrow.Author.Tests.{ltb-false, not-false, ne_eqb}
+use lib.Seq.{length-take-le, take-length}
+use Rattle.std.proofs.lemmas.List.{map_more}
+use borrow.Author.Tests.{ne_eqb}
 use Rattle.base.specs.Overlay.{overlay}
-use Rattle.base.specs.Chain.{◌gives◌, Clear}
-use Rattle.base.proofs.Chain.{clear}
-use Rattle.base.proofs.Overlaid.{overlay_none, overlay_more}
+use Rattle.base.proofs.Overlaid.{overlay_none}
 use Rattle.rules.specs.declared.Monitor.{Monitor}
 use Rattle.rules.specs.Rules.{Call}
-use Rattle.rules.specs.Record.{intact, after, replies, final}
+use Rattle.rules.specs.Record.{after, replies, final}
 use Rattle.rules.proofs.Lists.{final_snoc, replies_snoc}
 use Rattle.requests.specs.declared.Answered.{Answered}
 use Rattle.requests.specs.Calls.{step_of}
 use Rattle.calls.specs.declared.Request.{Request}
+use Rattle.calls.proofs.Served.{answer_stored}
 use Rattle.requests.specs.Requests.{call_of}
 use Rattle.queue.specs.Queue.{queue_refusal, queue_of, queue_out}
 
@@ -43,8 +40,8 @@ module _ (m : Monitor) (rs : List Request) (ys : List ℕ) where
   abbrev pub buffer : ℕ → List ℕ
   buffer i = overlay ys 0 (replies m (calls rs i))
 
-  answered : (i : ℕ) → i ≤ length rs → 0 + length (replies m (calls rs i)) ≡ i
-  answered i l = zero-add _ ∙ length_replies (calls rs i) m ∙ length-map (take i rs) call_of ∙ length-take-le i rs l
+  answered : (i : ℕ) → i ≤ length rs → length (replies m (calls rs i)) ≡ i
+  answered i l = length_replies (calls rs i) m ∙ length-map (take i rs) call_of ∙ length-take-le i rs l
 
   pub first_state : m ≡ state 0
   unfolding final
@@ -55,7 +52,7 @@ module _ (m : Monitor) (rs : List Request) (ys : List ℕ) where
   first_buffer = overlay_none ys 0
 
   one_more : (i : ℕ) → i < length rs → calls rs (i + 1) ≡ calls rs i ++ (call_of (get_or rs i no_request) ∷ [])
-  one_more i l = rw add-one (ap (map call_of) (take-suc rs i no_request l) ∙ map-append call_of (take i rs) (get_or rs i no_request ∷ []))
+  one_more i l = map_more call_of rs i no_request l
 
   pub next_state : (i : ℕ) → i < length rs → {cur : Monitor} {r : Answered} → cur ≡ state i → r ≡ step_of cur (call_of (get_or rs i no_request)) → r.monitor ≡ state (i + 1)
   next_state i l h e = rw (e, h, one_more i l) (sym (final_snoc (calls rs i) m (call_of (get_or rs i no_request))))
@@ -66,24 +63,12 @@ module _ (m : Monitor) (rs : List Request) (ys : List ℕ) where
 
   pub next_buffer : (i : ℕ) → i < length rs → i < length ys → {cur : Monitor} {zs : List ℕ} {r : Answered} → cur ≡ state i → zs ≡ buffer i → r ≡ step_of cur (call_of (get_or rs i no_request)) → set zs i r.answer ≡ buffer (i + 1)
   next_buffer i l l' {r = r} h b e =
-      let n = answered i (omega (arith, l)) in
-      ap (λ (z : List ℕ). set z i r.answer) b ∙ ap (λ (k : ℕ). set (buffer i) k r.answer) (sym n)
-      ∙ overlay_more ys 0 (replies m (calls rs i)) r.answer (omega (arith, n, l')) ∙ ap (overlay ys 0) (more_answers i l h e)
+      answer_stored ys (replies m (calls rs i)) r.answer b (answered i (omega (arith, l))) l' ∙ ap (overlay ys 0) (more_answers i l h e)
 
--- what the number says: all requests are made, and each has room for its answer, or none is made
+-- all requests are made, or none is
 module _ (m : Monitor) (rs : List Request) (ys : List ℕ) where
   pub all_made : (i : ℕ) → i ≤ length rs → length rs ≤ i → calls rs i ≡ map call_of rs
   all_made i a b = ap (calls rs) (le_antisymm a b) ∙ ap (map call_of) (take-length rs)
-
-  module _ (z : 0 ≡ queue_refusal m (length rs) (length ys)) where
-    clear_of : Clear (not (intact m.plant m) gives 20 ∷ ltb (length ys) (length rs) gives 31 ∷ [])
-    clear_of = clear (not (intact m.plant m) gives 20 ∷ ltb (length ys) (length rs) gives 31 ∷ []) (refl, (refl, tt)) (sym z)
-
-    pub record_passes : intact m.plant m ≡ true
-    record_passes = not-false _ clear_of.0
-
-    pub room_enough : length rs ≤ length ys
-    room_enough = omega (arith, ltb-false _ _ clear_of.1.0)
 
   -- a queue that is refused makes no call
   pub refused : {n : ℕ} → n ≡ queue_refusal m (length rs) (length ys) → (n ≡ 0 → ⊥)

@@ -9,7 +9,7 @@ use cells::zeros_at;
 use checks::check_plant;
 use layout::Section;
 use parts::{PlantFile, check_header};
-use plant::Plant;
+use plant::Checked;
 use records::plant_from;
 use refusal::Refusal;
 
@@ -35,12 +35,12 @@ fn other_zeros(file: PlantFile) -> bool
 }
 
 // Any bytes: opening's number, or the plant.
-pub fn read(file: &[u8]) -> Result<Plant, Refusal>
+pub fn read(file: &[u8]) -> Result<Checked, Refusal>
     ensures refused { answer_of result ≡ (reading_of file.now).answer }
-    ensures plant { IfOk result (λ plant. plant ≡ (reading_of file.now).plant) }
+    ensures plant { IfOk result (λ checked. checked.plant ≡ (reading_of file.now).plant) }
 {
     let plant_file = check_header(file)?;
     let plant = plant_from(plant_file);
     check_plant(&plant, lattice_zeros(plant_file), other_zeros(plant_file))?;
-    Ok(plant)
+    Ok(Checked { plant })
 }

@@ -10,61 +10,35 @@ use parts::PlantFile;
 use plant::Plant;
 use std::marker::PhantomData;
 
-// The fields of each section's records. Each name begins with the record. Written out nine times: a constant cannot call a function, so that a macro alone
-// would be shorter.
-const LATTICE_SIZE: SectionField<u8> = SectionField {
-    section: Section::Lattices,
-    field: Field { from: 0, run: 1 },
-    number: PhantomData,
-};
+// A field of a section's records: from which byte of each on, and how many cells. A macro, since a constant cannot call a function.
+macro_rules! field {
+    ($section:ident, from $from:expr, run $run:expr) => {
+        SectionField {
+            section: Section::$section,
+            field: Field { from: $from, run: $run },
+            number: PhantomData,
+        }
+    };
+}
 
-const LATTICE_SETS: SectionField<u16> = SectionField {
-    section: Section::Lattices,
-    field: Field { from: 2, run: 16 },
-    number: PhantomData,
-};
+// The fields of each section's records. Each name begins with the record.
+const LATTICE_SIZE: SectionField<u8> = field!(Lattices, from 0, run 1);
 
-const REQUIREMENT_LATTICE: SectionField<u8> = SectionField {
-    section: Section::Requirements,
-    field: Field { from: 0, run: 1 },
-    number: PhantomData,
-};
+const LATTICE_SETS: SectionField<u16> = field!(Lattices, from 2, run 16);
 
-const GROUP_REQUIREMENT: SectionField<u8> = SectionField {
-    section: Section::Groups,
-    field: Field { from: 0, run: 1 },
-    number: PhantomData,
-};
+const REQUIREMENT_LATTICE: SectionField<u8> = field!(Requirements, from 0, run 1);
 
-const TANK_GROUP: SectionField<u8> = SectionField {
-    section: Section::Tanks,
-    field: Field { from: 0, run: 1 },
-    number: PhantomData,
-};
+const GROUP_REQUIREMENT: SectionField<u8> = field!(Groups, from 0, run 1);
 
-const TANK_LEVEL: SectionField<u8> = SectionField {
-    section: Section::Tanks,
-    field: Field { from: 1, run: 1 },
-    number: PhantomData,
-};
+const TANK_GROUP: SectionField<u8> = field!(Tanks, from 0, run 1);
 
-const TASK_REQUIREMENTS: SectionField<u8> = SectionField {
-    section: Section::Tasks,
-    field: Field { from: 0, run: 1 },
-    number: PhantomData,
-};
+const TANK_LEVEL: SectionField<u8> = field!(Tanks, from 1, run 1);
 
-const TASK_RIGHTS: SectionField<u8> = SectionField {
-    section: Section::Tasks,
-    field: Field { from: 2, run: 8 },
-    number: PhantomData,
-};
+const TASK_REQUIREMENTS: SectionField<u8> = field!(Tasks, from 0, run 1);
 
-const SKID_TASKS: SectionField<u16> = SectionField {
-    section: Section::Skids,
-    field: Field { from: 0, run: 1 },
-    number: PhantomData,
-};
+const TASK_RIGHTS: SectionField<u8> = field!(Tasks, from 2, run 8);
+
+const SKID_TASKS: SectionField<u16> = field!(Skids, from 0, run 1);
 
 // The plant that the records make.
 pub fn plant_from(file: PlantFile) -> Plant

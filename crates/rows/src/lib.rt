@@ -1,5 +1,5 @@
 // The levels of a lattice in order, and a row of their table of joins: the join of one level with each level, found by the sets of the levels.
-// The bound of an index is a clause and no type: a type would be made of a number at each call and taken apart at each array.
+// The bound of an index or a count is a clause and no type: a type would be made of a number at each call and taken apart at each array.
 #![tactic(auto)]
 
 ghost use Rattle.std.specs.Prelude.{◌≡◌, get_or, ℕ, ◌^◌, true, ◌<◌, ◌≤◌};
@@ -12,8 +12,10 @@ use lattice::Lattice;
 use sets::{Members, byte_where, has};
 use std::array;
 
-// Levels in order: bit j of above[i] where level j is at or above level i, and bit j of under[i] where it is at or under it. `numbers` are the entries
-// that each row begins with, made once for all rows: a row that makes them itself takes 6,800 instructions more in opening a maximum plant.
+// Levels in order: bit j of above[i] where level j is at or above level i, and bit j of under[i] where it is at or under it. Arrays of sixteen with the
+// count of the levels beside them, and no slices: there is no heap for what is made here, and over all sixteen the loops need no branch for the count.
+// `numbers` are what `upper_row` puts where level i is not above, made once for all rows: a row that makes them itself takes 6,800 instructions more in
+// opening a maximum plant.
 #[derive(Clone, Copy)]
 pub struct Levels {
     pub count: usize,
@@ -47,14 +49,6 @@ fn turned_sets(s: &[u16; 16]) -> [u16; 16]
     t
 }
 
-// The set x has n levels, the lowest numbers, and no other: so each of them is in it.
-fn is_all(x: u16, n: usize) -> bool
-    requires { n ≤ 16 }
-    ensures { result ≡ true → all_below (bit x) n ≡ true }
-{
-    u32::from(x) + 1 == 1u32 << n
-}
-
 // The numbers of the levels as bytes, and 255, which stands for none, from n on: `table` (joins) says why an entry is no `Option`. A level is below 16,
 // so its number is made a byte by `as`, here and in a row: `try_from` would answer with an error that there cannot be.
 pub fn numbers_to(n: usize) -> [u8; 16]
@@ -64,8 +58,8 @@ pub fn numbers_to(n: usize) -> [u8; 16]
     array::from_fn(|j| if j < n { j as u8 } else { 255 })
 }
 
-// Level k is the join of the level whose set is x and of each level whose set shares with x what set k has. By the index, since an invariant has no word
-// for the entries of the row where they come in pairs with the sets.
+// Level k is the join of the level whose set is x and of each level whose set shares with x what set k has. By the index: in a `zip` with
+// the sets the proof does not close, since an invariant has no word for the entries of the row there.
 #[tactic(auto, using(base::proofs::Filled::filled))]
 fn mark(row: &mut [u8; 16], s: &[u16; 16], x: u16, k: usize)
     requires { k < 16 }
@@ -95,8 +89,8 @@ impl Levels {
         }
     }
 
-    // The turned order, in which a join is a meet of this one. That its sets are in order is a clause and no fact of `Levels`: a row asks it of one order
-    // alone.
+    // The turned order, in which a join is a meet of this one. That its sets are in order is a clause and no fact of `Levels`: `join_row` asks it of `above`
+    // alone, and may ask no more.
     pub fn turned(&self) -> Levels
         requires { OrderedSets self.now.count self.now.under }
         ensures count { result.count ≡ self.now.count }
@@ -109,6 +103,13 @@ impl Levels {
             under: self.above,
             numbers: self.numbers,
         }
+    }
+
+    // The set x has as many levels as there are, and no number from there on: so each level is in it.
+    fn is_all(&self, x: u16) -> bool
+        ensures { result ≡ true → all_below (bit x) self.now.count ≡ true }
+    {
+        u32::from(x) + 1 == 1u32 << self.count
     }
 
     // Level i where it is above level j, and else the number of j. All sixteen entries are made: a level that is not used is under none. With an `if` in
@@ -139,7 +140,7 @@ impl Levels {
         requires { i < self.now.count }
         ensures { result ≡ join_row self.now.count (under_in self.now.above) i }
     {
-        if is_all(self.above[i] | self.under[i], self.count) {
+        if self.is_all(self.above[i] | self.under[i]) {
             self.upper_row(i)
         } else {
             self.searched_row(i)

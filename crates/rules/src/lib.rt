@@ -23,12 +23,21 @@ pub struct Monitor {
     pub chosen: [u8; 64],
 }
 
-// The place of the level of skid s in task t for requirement d.
+// The place of the level of skid s in task t for requirement d. The three go together and are no struct: they are indices of one array, each a number
+// of a range or a byte of a request, so a struct would be made at each call and taken apart here, which is no plainer.
 fn level_at(s: usize, t: usize, d: usize) -> usize
     requires { (s < 8) × (t < 16) × (d < 8) }
     ensures { result ≡ level_at s t d }
 {
     (s * 16 + t) * 8 + d
+}
+
+// The place of the tank chosen for skid s from group g. Where a list keeps the rights granted, those of the skid on the group stand at it too.
+pub fn chosen_at(s: usize, g: usize) -> usize
+    requires { (s < 8) × (g < 8) }
+    ensures { result ≡ chosen_at s g }
+{
+    s * 8 + g
 }
 
 // A byte of the record as an option.
@@ -62,12 +71,12 @@ impl Monitor {
         if_set(self.running[s])
     }
 
-    // The tank chosen for skid s from group g.
-    pub fn tank(&self, s: usize, g: usize) -> u8
+    // The tank chosen for skid s from group g, if one is.
+    pub fn tank(&self, s: usize, g: usize) -> Option<u8>
         requires { (s < 8) × (g < 8) }
-        ensures { result ≡ get_or self.now.chosen (chosen_at s g) 0 }
+        ensures { result ≡ if_set (get_or self.now.chosen (chosen_at s g) 0) }
     {
-        self.chosen[s * 8 + g]
+        if_set(self.chosen[chosen_at(s, g)])
     }
 }
 

@@ -2,12 +2,13 @@
 // that `section` (crates/parts) returns.
 #![tactic(auto)]
 
+use header::FILE_LIMIT;
 use input::read_full;
 use layout::Section;
 use parts::section;
 
 // One byte more than a plant file has, so that a longer one is refused.
-const INPUT: usize = 4097;
+const INPUT: usize = FILE_LIMIT + 1;
 
 // A write that fails is not reported: the exit status is 0 in any case.
 fn main(rt: HostRuntime) {

@@ -7,7 +7,8 @@ ghost use Rattle.printing.specs.Printed.{batch_lines, printed, PrintsRead};
 ghost use Rattle.writer.specs.Writing.{Writes};
 
 use batch_call::call_batch;
-use header::{HEADER_BYTES, length_said};
+use calls::Request;
+use header::{HEADER_BYTES, Header};
 use lines::{print_outcome, put_refusal};
 use refusal::{Refusal, answer};
 use writer::Writer;
@@ -18,11 +19,14 @@ const LONGEST: usize = 65536;
 // What the program reads into: one byte more than is taken, so that longer input shows.
 pub const INPUT: usize = LONGEST + 1;
 
-// 65,536 bytes have at most 13,107 requests, so this is room for the answers, a count, and 255 rights of three bytes.
-const RESULTS: usize = 13107 + 766;
+// The most requests that so many bytes have.
+const REQUESTS: usize = LONGEST / Request::BYTES;
 
-// Room for 13,107 lines of ten bytes, the held line, and 255 lines of twelve.
-pub const TEXT: usize = 131070 + 3069;
+// Room for their answers, a count, and 255 rights of three bytes.
+const RESULTS: usize = REQUESTS + 766;
+
+// Room for a line of ten bytes for each, the held line, and 255 lines of twelve.
+pub const TEXT: usize = REQUESTS * 10 + 3069;
 
 fn print_batch(plant: &[u8], requests: &[u8], text: &mut Writer)
     requires in_range { length requests.now ≤ 65536 }
@@ -31,7 +35,7 @@ fn print_batch(plant: &[u8], requests: &[u8], text: &mut Writer)
 {
     let mut results = [0u8; RESULTS];
     let number = answer(call_batch(plant, requests, &mut results));
-    let (answers, held) = results.split_at(requests.len() / 5);
+    let (answers, held) = results.split_at(requests.len() / Request::BYTES);
     print_outcome(text, number, answers, held);
 }
 
@@ -44,7 +48,7 @@ fn plant_and_requests(input: &[u8]) -> Option<(&[u8], &[u8])>
     if input.len() < HEADER_BYTES {
         return None;
     }
-    input.split_at_checked(length_said(input))
+    input.split_at_checked(Header { file: input }.length_said())
 }
 
 // A plant that is not all there is refused as a file of another length than it says.

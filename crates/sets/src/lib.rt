@@ -1,5 +1,6 @@
 // Sets of numbers under sixteen, a bit each. A set is a bare `u16`, as a plant file has it. The arrays of the plant's record could hold a type of its own in
-// the layout that C reads; but the definitions of the rules speak of lists of numbers, and each list of sets would become one of records.
+// the layout that C reads; but the definitions of the rules speak of lists of numbers, and each list of sets would become one of records,
+// which is no plainer.
 // The bound of an index is a clause and no type: a type would be made of a number at each call and taken apart at each array.
 #![tactic(auto)]
 
@@ -25,7 +26,7 @@ pub fn none_from(x: u16, n: u8) -> bool
     u32::from(x) >> n == 0
 }
 
-// The set x with the number i in it. Sets of levels and sets of groups are the bits of a number.
+// The set x with the number i in it.
 #[tactic(auto, using(crate::proofs::Single::with_one_lem))]
 pub fn with_one(x: u16, i: usize) -> u16
     requires { i < 16 }

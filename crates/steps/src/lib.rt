@@ -3,27 +3,35 @@
 #![tactic(auto)]
 
 ghost use Rattle.std.specs.Prelude.{◌≡◌, ◌*◌, ◌<◌};
+ghost use Rattle.base.specs.Chain.{first};
 ghost use Rattle.refusal.specs.Number.{answer_of};
 ghost use Rattle.rules.specs.Rules.{set, stop};
 ghost use Rattle.rules.specs.Record.{fill_from};
 ghost use Rattle.calls.specs.Lent.{Does};
-ghost use Rattle.calls.specs.Work.{rights_in, get_row};
+ghost use Rattle.calls.specs.Work.{set_items, rights_in, get_row};
 
 use calls::check_present;
 use plant::Plant;
 use refusal::Refusal;
 use rules::{NONE, Tested};
 
+// Whether the skid, the task and the requirement of a set are there.
+fn check_set(p: &Plant, s: u8, t: u8, d: u8) -> Result<(), Refusal>
+    ensures { answer_of result ≡ first (set_items p.now s t d) }
+{
+    check_present([
+        (p.skids <= s).then_some(Refusal::NoSuchSkid),
+        (p.tasks <= t).then_some(Refusal::NoSuchTask),
+        (p.requirements <= d).then_some(Refusal::NoSuchRequirement),
+    ])
+}
+
 // Set: 21 to 24, or the level is stored.
 pub fn set_at(tested: &mut Tested, s: u8, t: u8, d: u8, v: u8) -> Result<(), Refusal>
     ensures { Does tested.old.monitor (set s t d v) (answer_of result) tested.new.monitor }
 {
     let m = &mut tested.monitor;
-    check_present([
-        (m.plant.skids <= s).then_some(Refusal::NoSuchSkid),
-        (m.plant.tasks <= t).then_some(Refusal::NoSuchTask),
-        (m.plant.requirements <= d).then_some(Refusal::NoSuchRequirement),
-    ])?;
+    check_set(&m.plant, s, t, d)?;
     if m.plant.levels_of(usize::from(d)) <= v {
         return Err(Refusal::NoSuchLevel);
     }
@@ -31,7 +39,8 @@ pub fn set_at(tested: &mut Tested, s: u8, t: u8, d: u8, v: u8) -> Result<(), Ref
     Ok(())
 }
 
-// A skid's row of eight, its choices or the rights granted to it: written whole, so that nothing stale is left.
+// A skid's row of eight, its choices or the rights granted to it: written whole, so that nothing stale is left. With `as_chunks_mut`, as
+// `Plant::rights_row` reads a row, the proof does not close: its contract does not say what the array is afterwards.
 pub fn put_row(rows: &mut [u8; 64], s: usize, row: &[u8; 8])
     requires { s < 8 }
     ensures { rows.new ≡ fill_from rows.old (s * 8) (get_row row.now) 8 }
@@ -44,10 +53,11 @@ pub fn grant_row(granted: &mut [u8; 64], p: &Plant, s: usize, t: usize)
     requires { (s < 8) × (t < 16) }
     ensures { granted.new ≡ fill_from granted.old (s * 8) (rights_in p.now.task_rights t) 8 }
 {
-    put_row(granted, s, &p.task_rights.as_chunks::<8>().0[t]);
+    put_row(granted, s, p.rights_row(t));
 }
 
 // Stop: 21, or the skid runs nothing and has no tank.
+#[tactic(auto, using(calls::proofs::Ready::plant_valid))]
 pub fn stop_at(tested: &mut Tested, s: u8) -> Result<(), Refusal>
     ensures { Does tested.old.monitor (stop s) (answer_of result) tested.new.monitor }
 {

@@ -11,7 +11,7 @@ use Rattle.base.proofs.Below.{all_yes, all_at, all_same}
 use Rattle.base.proofs.Filled.{fill_at}
 use Rattle.base.proofs.Logic.{split, same_test, and_true, and_intro}
 use Rattle.plant.specs.declared.Plant.{Plant}
-use Rattle.plant.specs.Plant.{lattice_of, rights_of}
+use Rattle.plant.specs.Plant.{levels_of, lattice_of, rights_of}
 use Rattle.plant.specs.Checks.{Fits, plant_refusal}
 use Rattle.plant.specs.Valid.{Valid}
 use Rattle.plant.proofs.Sound.{sound_law}
@@ -20,7 +20,7 @@ use Rattle.choice.specs.Choice.{unset}
 use Rattle.rules.specs.declared.Monitor.{Monitor}
 use Rattle.rules.specs.Intact.{level_ok, task_ok, tank_ok, intact_view, intact_views}
 use Rattle.rules.specs.Record.{view_of, intact}
-use Rattle.test20.specs.Raw.{levels_of_requirement, most, row_level_in, task_levels_in, skid_levels_in, task_in, chosen_in, skid_runs_in, parts_in}
+use Rattle.test20.specs.Raw.{most, row_level_in, task_levels_in, skid_levels_in, task_in, chosen_in, skid_runs_in, parts_in}
 
 -- two tests of each index, asked one after the other or at once
 all_both : (n : ℕ) (p q : ℕ → Bool) → all_below (λ i. p i && q i) n ≡ all_below p n && all_below q n
@@ -33,7 +33,7 @@ module _ (P : Plant) (m : Monitor) (F : Fits P) (s : ℕ) (l : s < P.skids) wher
   unfolding level_ok view_of
   level_same t d a b =
       let r = F.requirements_fit in
-      rw (lt-ltb s P.skids l, lt-ltb t P.tasks a, lt-ltb d P.requirements b, fill_at (levels_of_requirement P.lattice_sizes P.requirement_lattice) (replicate 8 255) P.requirements d 0 (omega (arith, length-replicate {A = ℕ} 8 255)) b)
+      rw (lt-ltb s P.skids l, lt-ltb t P.tasks a, lt-ltb d P.requirements b, fill_at (levels_of P) (replicate 8 255) P.requirements d 0 (omega (arith, length-replicate {A = ℕ} 8 255)) b)
 
   levels_same : all_below (λ t. all_below (λ d. level_ok P (view_of P m s) t d) P.requirements) P.tasks ≡ skid_levels_in m.levels (most P) P.requirements P.tasks s
   levels_same = all_same P.tasks _ (task_levels_in m.levels (most P) P.requirements s) (λ t a. all_same P.requirements _ (row_level_in m.levels (most P) (s * 16 + t)) (λ d b. level_same t d a b))

@@ -5,17 +5,12 @@ use Rattle.base.specs.Below.{all_below}
 use Rattle.base.specs.Bits.{bit}
 use Rattle.base.specs.Fill.{fill}
 use Rattle.plant.specs.declared.Plant.{Plant}
+use Rattle.plant.specs.Plant.{levels_of}
 use Rattle.choice.specs.Choice.{unset}
 
--- How many levels requirement d has, and the list of these, which has 255 past the count.
-abbrev pub levels_of_requirement : List ℕ → List ℕ → ℕ → ℕ
-levels_of_requirement sizes lattice d = get_or sizes (get_or lattice d 0) 0
-
-abbrev pub levels_by_requirement : List ℕ → List ℕ → ℕ → List ℕ
-levels_by_requirement sizes lattice requirements = fill (levels_of_requirement sizes lattice) (replicate 8 255) requirements
-
+-- How many levels each requirement has, and 255 past the count.
 abbrev pub most : Plant → List ℕ
-most p = levels_by_requirement p.lattice_sizes p.requirement_lattice p.requirements
+most p = fill (levels_of p) (replicate 8 255) p.requirements
 
 -- level v is unset or one of n levels
 abbrev pub level_in : ℕ → ℕ → Bool

@@ -16,6 +16,7 @@ pub const SPACE: u8 = b' ';
 
 const NEWLINE: u8 = b'\n';
 
+// The digit is below 10, so it is made a byte by `as`: `try_from` would answer with an error that there cannot be.
 fn put_digit(text: &mut Writer, d: u32)
     requires in_range { d < 10 }
     requires room { Room (digit d ∷ []) text.old }
@@ -35,7 +36,7 @@ fn put_place(text: &mut Writer, m: u32)
 }
 
 // A place that n does not reach has no digit. Five places by fixed divisions of 32 bits: with the toolchain's itoa the line of an answer takes 118
-// instructions, where this takes 76, and permits with 65,000 bytes some 1.5 times the baseline's, where its bar is 1.2 and this takes 1.13. 01's session
+// instructions, where this takes 76, and permits with 65,000 bytes some 1.5 times the baseline's, where its bar is 1.2 and this takes 1.14. 01's session
 // has ten answers, and takes 1.21 either way.
 #[tactic(auto, using(writer::proofs::Written::room_rest, printing::proofs::Number::places_length, printing::proofs::Decimal::some_digit))]
 fn put_number(text: &mut Writer, n: u32)

@@ -3,7 +3,6 @@
 
 ghost use Rattle.std.specs.Prelude.{◌≡◌, true};
 ghost use Rattle.std.proofs.Props.{props};
-ghost use Rattle.plant.specs.Checks.{plant_refusal};
 ghost use Rattle.refusal.specs.Number.{answer_of};
 ghost use Rattle.rules.specs.Rules.{start, stop};
 ghost use Rattle.rules.specs.Record.{fresh};
@@ -12,29 +11,29 @@ ghost use Rattle.calls.specs.Lent.{call_by, Does, Keeps};
 use calls::{Call, Kept, Request};
 use fresh::fresh_monitor;
 use gates::gate_granted;
-use plant::Plant;
+use plant::Checked;
 use refusal::{Refusal, answer, gate_answer};
 use rules::Tested;
 use starts::start_at;
 use steps::{grant_row, put_row, set_at, stop_at};
 
-// A batch under way: its record, and what it keeps beside it. The record is the fresh one of an accepted plant at first.
+// A batch under way: its record, and what it keeps beside it. The record is the fresh one of its plant at first.
 #[derive(Drop)]
 pub struct Batch {
     pub tested: Tested,
     pub kept: Kept,
+    // `by`: the check is to see that the fact has one proof alone, which it does not see by itself of one made by cases, as `Tables` is.
     pub ghost keeps: { Keeps tested.monitor kept } by { Prim.hlevel props },
 }
 
 impl Batch {
     // Before the first request.
-    pub fn new(plant: Plant) -> Self
-        requires { plant_refusal true true plant ≡ 0 }
-        ensures { result.tested.monitor ≡ fresh plant }
+    pub fn new(checked: Checked) -> Self
+        ensures { result.tested.monitor ≡ fresh checked.plant }
     {
         Batch {
             tested: Tested {
-                monitor: fresh_monitor(plant),
+                monitor: fresh_monitor(checked.plant),
             },
             kept: Kept::new(),
         }

@@ -4,7 +4,7 @@
 ghost use Rattle.std.specs.Prelude.{◌≡◌, [], ◌∷◌};
 ghost use Rattle.writer.specs.Writing.{Room, Writes};
 
-// The next byte goes to place `at`.
+// The next byte goes to place `at`. That there is room (`Room`) is a clause and no fact of the type: each function asks it of the words that it writes.
 #[derive(Drop)]
 pub struct Writer<'a> {
     bytes: &'a mut [u8],

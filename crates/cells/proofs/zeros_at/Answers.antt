@@ -6,4 +6,4 @@ use Rattle.cells.proofs.zeros_at.Goals as goal
 
 pub returns : goal.returns
 unfolding zeros_at
-returns c = all_in_range _ c.args.part.count c.all.ensures.ran (cc) (λ x b q k. search (rules, tests))
+returns c = all_in_range _ _ c.all.ensures.ran (cc) (λ x b q k. search (rules, tests))

@@ -12,7 +12,7 @@ loop-o-preserved c =
     let o = c.loop-o.o - 1 in
     let k : o < P.tanks = omega (arith, c.loop-o-test.true) in
     made_next P c.requires.tanks_there o _ (rw (c.of-places.ensures, c.from-i.ensures) at c.near.ensures) c.loop-o.o (omega (arith, c.loop-o-test.true)) k _ _ c.loop-o.invariant
-    (rw (c.from.ensures, c.from-i.ensures) at c.put_choices.ensures)
+    (rw (c.group_of.ensures, c.from-i.ensures) at c.put_choices.ensures)
 
 pub returns : goal.returns
 returns c =

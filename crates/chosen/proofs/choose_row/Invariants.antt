@@ -4,4 +4,4 @@ use Rattle.calls.proofs.Groups.{FoundSoFar}
 use Rattle.chosen.proofs.choose_row.Given as goal
 
 abbrev pub invariant-loop-g : goal.invariant-loop-g
-invariant-loop-g l = FoundSoFar (made_at l.made) l.m.plant.group_requirement l.m.levels l.s l.t l.need l.g-iterator.rest l.lacking l.row
+invariant-loop-g l = FoundSoFar (made_at l.made) l.m.plant.group_requirement l.m.levels l.start.skid l.start.task l.start.need l.g-iterator.rest l.lacking l.row

@@ -1,17 +1,13 @@
 -- A gate whose items are there answers by the rights granted.
-use Rattle.std.proofs.Common.{◌≡◌, rules, refl}
-use Rattle.refusal.specs.Number.{number_of, gate_answer_of}
-use Rattle.refusal.proofs.NotZero.{number_not_0}
-use Rattle.calls.proofs.Steps.{gate_refused, items_fit, gate_by_grants}
+use Rattle.std.proofs.Common.{refl}
+use Rattle.calls.proofs.Steps.{gate_handed_on, gate_bounds, items_fit, gate_by_grants}
 use Rattle.gates.proofs.gate_granted.Goals as goal
 
 pub returns-in_err-check_gate : goal.returns-in_err-check_gate
-returns-in_err-check_gate c =
-    let e : gate_answer_of c.from_residual.result ≡ number_of c.in_err-check_gate.field-0.0 = search rules in
-    rw e (gate_refused _ c.args.tested.now.passes_test_20 _ _ c.args.r c.in_err-check_gate.ensures (number_not_0 c.in_err-check_gate.field-0.0))
+returns-in_err-check_gate c = gate_handed_on c.args.tested.now _ _ c.args.r _ c.in_err-check_gate.ensures _ c.from_residual.ensures
 
 pub is_granted-requires-clause-s_bound : goal.is_granted-requires-clause-s_bound
-is_granted-requires-clause-s_bound c = rw c.from.ensures (items_fit _ c.args.tested.now.passes_test_20 _ _ c.args.r c.in_ok-check_gate.ensures refl).0
+is_granted-requires-clause-s_bound c = gate_bounds c.args.tested.now _ _ c.args.r c.in_ok-check_gate.ensures c.from.ensures
 
 pub is_granted-requires-clause-o_bound : goal.is_granted-requires-clause-o_bound
 is_granted-requires-clause-o_bound c = (items_fit _ c.args.tested.now.passes_test_20 _ _ c.args.r c.in_ok-check_gate.ensures refl).1

@@ -1,16 +1,16 @@
 -- Each table is full where each pair has a join, and the turned sets' joins are the meets.
-use Rattle.std.proofs.Common.{◌≡◌, ◌≤◌, List, ℕ, Bool, ◌∙◌}
+use Rattle.std.proofs.Common.{◌≡◌, ◌≤◌, List, ℕ, Bool, ◌∙◌, length, take}
 use Rattle.base.proofs.Both.{both_on, both_off}
 use Rattle.lattice.specs.Levels.{joined, complete}
 use Rattle.lattice.specs.Sets.{under_in}
 use Rattle.lattice.specs.Table.{join_table, table_full}
 use Rattle.lattice.proofs.Meets.{turned_joined}
-use Rattle.lattice.proofs.Tables.{table_joined}
+use Rattle.lattice.proofs.Tables.{front_joined}
 use Rattle.joins.proofs.is_complete.Goals as goal
 
--- r is what the test of the table t returned, which is the table of joins of the n levels of the sets s
-found : (n : ℕ) (s : List ℕ) {r : Bool} {t : List (List ℕ)} {m k : ℕ} {x : List ℕ} → n ≤ 16 → m ≡ n → k ≡ n → x ≡ s → r ≡ table_full m t → t ≡ join_table k (under_in x) → r ≡ joined n (under_in s)
-found n s b e f g p q = table_joined n (under_in s) b (rw e at p) (rw (f, g) at q)
+-- r is what the test of the front of the table t returned, which is the table of joins of the n levels of the sets s
+found : (n : ℕ) (s : List ℕ) {r : Bool} {t : List (List ℕ)} {m k : ℕ} {x : List ℕ} → n ≤ 16 → m ≡ n → k ≡ n → x ≡ s → r ≡ table_full (length (take m t)) (take m t) → t ≡ join_table k (under_in x) → r ≡ joined n (under_in s)
+found n s b e f g p q = front_joined n (under_in s) b (rw e at p) (rw (f, g) at q)
 
 pub returns-then-is_full : goal.returns-then-is_full
 unfolding complete

@@ -1,12 +1,17 @@
 -- Each tank's group has a place, and the places after a step are those of one tank more.
-use Rattle.std.proofs.Common.{◌<◌, get_or, arith}
+use Rattle.std.proofs.Common.{rules}
+use Rattle.std.proofs.lemmas.List.{length-append}
+use Rattle.plant.proofs.Tanks.{tank}
 use Rattle.choice.proofs.Places.{places_none, places_next}
 use Rattle.nearest.proofs.places_of.Goals as goal
 
-pub loop-o-init : goal.loop-o-init
-loop-o-init c = places_none c.args.p.now.tank_group c.args.p.now.tank_level
+pub loop-level-init : goal.loop-level-init
+loop-level-init c = places_none c.args.p.now.tank_group c.args.p.now.tank_level
 
-pub loop-o-preserved : goal.loop-o-preserved
-loop-o-preserved c =
-    let g : get_or c.args.p.now.tank_group c.loop-o.o 0 < 8 = c.requires.group_there c.loop-o.o (omega (arith, c.loop-o-test.true)) in
-    rw (c.from-g.ensures) (places_next c.args.p.now.tank_group c.args.p.now.tank_level c.loop-o.o c.loop-o.places _ g c.loop-o.invariant (rw (c.from-g.ensures, c.from.ensures) at c.with_one.ensures))
+pub loop-level-preserved : goal.loop-level-preserved
+loop-level-preserved c =
+    let p = c.args.p.now in
+    let t = tank p _ _ _ c.next.new.self c.loop-level.yielded_by c.next.ensures.steps c.in-Some.is c.from.ensures c.from-g.ensures (cc) (cc) (search rules) in
+    let made = rw (t.group, t.level) at c.with_one.ensures in
+    rw (length-append c.loop-level.yielded _, t.group)
+    (places_next p.tank_group p.tank_level _ c.loop-level.places _ (c.requires.group_there _ t.there) c.loop-level.invariant made)

@@ -1,6 +1,7 @@
 -- A check that refuses gives opening's number, and a file that none refuses its plant.
-use Rattle.std.proofs.Common.{refl, ◌∙◌}
+use Rattle.std.proofs.Common.{refl, sym, ◌∙◌}
 use Rattle.refusal.proofs.NotZero.{handed_on, not_0}
+use Rattle.plant.proofs.Sequence.{passes}
 use Rattle.opening.proofs.Sequence.{early_number, late_number, late_plant}
 use Rattle.reader.proofs.read.Goals as goal
 
@@ -12,6 +13,9 @@ returns-in_err-check_plant-clause-refused c =
     let h = c.in_ok-plant_file.ensures in
     handed_on _ _ c.from_residual-in_err-check_plant.ensures
     ∙ late_number _ h.number h.same c.plant_from-plant.ensures c.lattice_zeros.ensures c.other_zeros.ensures c.in_err-check_plant.ensures
+
+pub invariant_of-result : goal.invariant_of-result
+invariant_of-result c = record { passes_checks = passes _ _ _ (sym c.in_ok-check_plant.ensures) }
 
 pub returns-clause-refused : goal.returns-clause-refused
 returns-clause-refused c =

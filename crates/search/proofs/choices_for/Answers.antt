@@ -3,7 +3,7 @@ use Rattle.calls.proofs.Known.{is_set}
 use Rattle.calls.proofs.Searched.{looked_put}
 use Rattle.search.proofs.choices_for.Goals as goal
 
-pub loop-g-preserved-in-Some-level_for : goal.loop-g-preserved-in-Some-level_for
-loop-g-preserved-in-Some-level_for c =
-    let w = is_set _ c.in-Some-level_for.ensures in
-    rw w.1 (looked_put c.loop-g.invariant c.requires.reads c.requires.need c.in-Some.ensures.steps w.0 (rw w.1 at (rw c.of-places.ensures at c.choice_from.ensures)))
+pub loop-g-preserved-in-Some-level : goal.loop-g-preserved-in-Some-level
+loop-g-preserved-in-Some-level c =
+    let w = is_set _ c.in-Some-level.ensures in
+    rw w.1 (looked_put c.loop-g.invariant c.requires.reads c.requires.need c.in-Some.ensures.steps w.0 (rw w.1 at (rw c.of-places.ensures at c.choice.ensures)))

@@ -3,4 +3,4 @@ use Rattle.calls.proofs.Searched.{LookedSoFar}
 use Rattle.search.proofs.choices_for.Given as goal
 
 abbrev pub invariant-loop-g : goal.invariant-loop-g
-invariant-loop-g l = LookedSoFar l.m.plant l.m.levels l.s l.t l.need l.g-iterator.rest l.made
+invariant-loop-g l = LookedSoFar l.m.plant l.m.levels l.start.skid l.start.task l.start.need l.g-iterator.rest l.made

@@ -1,11 +1,8 @@
--- The part of the rights that is copied is the task's.
-use Rattle.std.proofs.Common.{◌∙◌, ◌*◌, arith}
-use Rattle.base.proofs.Chunks.{chunk_at}
+-- The row that is copied is the task's.
+use Rattle.std.proofs.Common.{◌∙◌, ◌*◌}
 use Rattle.calls.proofs.Rows.{row_same}
 use Rattle.calls.specs.Work.{rights_in}
 use Rattle.steps.proofs.grant_row.Goals as goal
 
 pub returns : goal.returns
-returns c =
-    c.put_row.ensures
-    ∙ row_same c.args.granted.now (c.args.s * 8) _ (rights_in c.args.p.now.task_rights c.args.t) 8 (λ g l. rw c.as_chunks.ensures.front (chunk_at 8 _ c.args.p.now.task_rights c.args.t g (omega (arith, c.as_chunks.ensures.front_len)) l))
+returns c = c.put_row.ensures ∙ row_same c.args.granted.now (c.args.s * 8) _ (rights_in c.args.p.now.task_rights c.args.t) 8 c.rights_row.ensures

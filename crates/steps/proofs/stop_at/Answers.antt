@@ -1,23 +1,22 @@
 -- The test is the rules', and the rows are emptied.
-use Rattle.std.proofs.Common.{refl, arith}
+use Rattle.std.proofs.Common.{refl, set}
 use borrow.Author.Tests.{le-leb, lt-leb}
-use Rattle.calls.proofs.Ready.{plant_valid}
+use Rattle.rules.specs.Record.{with_task}
+use Rattle.rules.specs.Rules.{stop}
+use Rattle.calls.specs.Lent.{Does}
 use Rattle.calls.proofs.Steps.{stop_does, still_passes}
+use Rattle.steps.proofs.stop_at.Goals.{After-put_row}
 use Rattle.steps.proofs.stop_at.Goals as goal
 
 pub returns-then-m-s : goal.returns-then-m-s
 returns-then-m-s c = stop_does _ c.args.tested.now.passes_test_20 _ (simp (le-leb _ _ c.if-m-s.true)) refl
 
-pub bounds-m-from : goal.bounds-m-from
-bounds-m-from c = omega (arith, (plant_valid _ c.args.tested.now.passes_test_20).counts.skids_fit)
-
-pub put_row-requires : goal.put_row-requires
-put_row-requires c = omega (arith, (plant_valid _ c.args.tested.now.passes_test_20).counts.skids_fit)
+-- the stop is what the rules say, by which the record left passes test 20 too
+stopped : (c : After-put_row) → let m = c.args.tested.now.monitor in Does m (stop c.args.s) 0 (with_task m (set m.running c.from.result 255) c.put_row.new.rows)
+stopped c = stop_does _ c.args.tested.now.passes_test_20 _ (simp (lt-leb _ _ c.if-m-s.false)) (rw (c.put_row.ensures, c.from.ensures, c.from-2.ensures))
 
 pub returns : goal.returns
-returns c = stop_does _ c.args.tested.now.passes_test_20 _ (simp (lt-leb _ _ c.if-m-s.false)) (rw (c.put_row.ensures, c.from.ensures, c.from-2.ensures))
+returns c = stopped (goal.at.returns c).After-put_row
 
 pub invariant_of-tested-2 : goal.invariant_of-tested-2
-invariant_of-tested-2 c =
-    let i = c.args.tested.now.passes_test_20 in
-    still_passes c.args.tested.now (stop_does _ i c.args.s {r = 0} (simp (lt-leb _ _ c.if-m-s.false)) (rw (c.put_row.ensures, c.from.ensures, c.from-2.ensures)))
+invariant_of-tested-2 c = still_passes c.args.tested.now (stopped c)

@@ -9,6 +9,6 @@ returns c =
     let places = c.args.self.now in
     let P = places.plant.now in
     let g = group_of P c.args.o in
-    let l : c.from-l.result ≡ lattice_of P (requirement_of P g) = rw (c.from.ensures, c.from-g.ensures) at c.from-l.ensures in
+    let l : c.lattice_of-l.result ≡ lattice_of P (requirement_of P g) = rw (c.requirement_of.ensures, c.group_of-g.ensures) at c.lattice_of-l.ensures in
     λ v. nearest_here P.lattice_sets P.tank_group P.tank_level (lattice_of P (requirement_of P g)) g v P.tanks _ (places.known g (places.tanks_there.group_there c.args.o c.requires.tank)) c.args.o
-    places.tanks_there.level_there _ (rw (l, c.from-g.ensures, c.from-x.ensures) at (c.nearest_for.ensures v)) refl
+    places.tanks_there.level_there _ (rw (l, c.group_of-g.ensures, c.level_of.ensures) at (c.nearest_for.ensures v)) refl

@@ -1,20 +1,13 @@
--- The fresh monitor of an accepted plant passes test 20, and nothing is made yet.
-use Rattle.std.proofs.Common.{[]}
+-- The fresh monitor of a plant that passes its checks passes test 20, and nothing is made yet.
 use Rattle.plant.proofs.Sound.{sound_law}
 use Rattle.plant.proofs.Valid.{valid}
-use Rattle.rules.specs.Record.{fresh}
-use Rattle.rules.proofs.Agree.{fresh_agree, intact_true}
+use Rattle.calls.proofs.Served.{fresh_passes}
 use Rattle.turns.proofs.Batch.new.Goals as goal
 
 pub invariant_of-result : goal.invariant_of-result
-unfolding fresh
-invariant_of-result c =
-    let p = c.args.plant in
-    let sound = (sound_law p).0 c.requires in
-    let agree = fresh_agree p sound in
-    rw c.fresh_monitor.ensures (record { sized = agree.sized; passes_test_20 = intact_true p sound (fresh p) [] agree })
+invariant_of-result c = rw c.fresh_monitor.ensures (fresh_passes c.args.checked.plant c.args.checked.passes_checks)
 
 pub invariant_of-result-2 : goal.invariant_of-result-2
 invariant_of-result-2 c =
-    let p = c.args.plant in
-    rw c.fresh_monitor.ensures (record { keeps = c.new.ensures p (valid p ((sound_law p).0 c.requires)).counts.skids_fit })
+    let checked = c.args.checked in
+    rw c.fresh_monitor.ensures (record { keeps = c.new.ensures checked.plant (valid checked.plant ((sound_law checked.plant).0 checked.passes_checks)).counts.skids_fit })

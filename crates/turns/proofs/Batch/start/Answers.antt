@@ -32,10 +32,9 @@ invariant_of-self-3 c =
     let batch = c.args.self.now in
     let f = (plant_valid _ batch.tested.passes_test_20).counts in
     let d = c.in_ok-start_at.ensures.does in
-    let l = start_items _ batch.keeps.grants c.args.s c.args.t f.skids_fit f.tasks_fit d refl in
     record {
       keeps = rw (c.grant_row.ensures, c.from.ensures, c.from-2.ensures, ← plant_kept d) (record {
         tables = c.start_at.ensures.tables;
-        grants = start_granted _ batch.keeps.grants c.args.s c.args.t l d refl;
+        grants = start_granted _ batch.keeps.grants c.args.s c.args.t f.skids_fit f.tasks_fit d refl;
       });
     }

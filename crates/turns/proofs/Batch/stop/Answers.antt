@@ -26,10 +26,9 @@ pub invariant_of-self-2 : goal.invariant_of-self-2
 invariant_of-self-2 c =
     let batch = c.args.self.now in
     let d = c.in_ok-stop_at.ensures in
-    let l = stop_item _ batch.keeps.grants c.args.s (plant_valid _ batch.tested.passes_test_20).counts.skids_fit d refl in
     record {
       keeps = rw (c.put_row.ensures, c.from.ensures, ← plant_kept d) (record {
         tables = batch.keeps.tables;
-        grants = stop_granted _ batch.keeps.grants c.args.s l d refl;
+        grants = stop_granted _ batch.keeps.grants c.args.s (plant_valid _ batch.tested.passes_test_20).counts.skids_fit d refl;
       });
     }

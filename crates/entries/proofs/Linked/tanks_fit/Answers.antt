@@ -1,0 +1,7 @@
+-- Each tank is asked.
+use Rattle.std.proofs.Common.{rules}
+use Rattle.base.proofs.All.{all_in_range}
+use Rattle.entries.proofs.Linked.tanks_fit.Goals as goal
+
+pub returns : goal.returns
+returns c = all_in_range _ _ c.all.ensures.ran (cc) (λ x b q k. search rules)
