@@ -152,8 +152,8 @@ impl Kept {
 }
 
 // The refusal of the first of three items that is missing; `missing` has that of each that is. First one test of all three, so that a call whose items
-// are there asks once: where the refusal is chosen first and then tested, each gate takes twelve instructions more, and a mixed request of a batch on 01's
-// plant is only one under the baseline's, which is its bar. A start has two items, and two tests that read the record at them, so it asks with an `if`
+// are there asks once: where the refusal is chosen first and then tested, each gate takes twelve instructions more; a mixed request of a batch on 01's
+// plant is only one under the baseline's, its bar, as it is. A start has two items, and two tests that read the record at them, so it asks with an `if`
 // for each of the four.
 pub fn check_present(missing: [Option<Refusal>; 3]) -> Result<(), Refusal>
     ensures { answer_of result ≡ first (map missing_item missing) }

@@ -14,7 +14,8 @@ use Rattle.base.proofs.Logic.{split}
 use Rattle.base.specs.Chain.{Clear}
 use Rattle.base.proofs.Chain.{Numbered, clear}
 
--- the numbers of a call's conditions are above 0
+-- The numbers of a call's conditions are above 0. Words has it too, as `call_numbered`: cited from there, the must-fail edit set_asks_permission, whose
+-- proof follows here, is one that the check cannot read.
 numbered : (P : Plant) (vs : ℕ → View) (c : Call) → Numbered (conditions P vs c)
 unfolding conditions
 numbered P vs (set s t d v) = (refl, (refl, (refl, (refl, tt))))

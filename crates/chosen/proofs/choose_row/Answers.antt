@@ -1,6 +1,6 @@
 -- The groups of the set are looked at one after the other.
 use Rattle.std.proofs.Common.{◌≡◌, rules}
-use Rattle.std.specs.Prelude.{Result, Err}
+use Rattle.std.specs.Prelude.{Err}
 use Rattle.refusal.specs.declared.Refusal.TheVariants.{LevelNotSet}
 use Rattle.calls.proofs.Known.{is_set, is_unset}
 use Rattle.calls.proofs.Groups.{none_found, tank_found, tank_lacking, ends_unset, all_found, some_lack}
