@@ -93,17 +93,24 @@ module _ (m : Monitor) {granted : List ℕ} (G : Granted m.plant.task_rights m.r
   pub stop_item : (s : ℕ) → m.plant.skids ≤ 8 → {r : ℕ} {left : Monitor} → Does m (stop s) r left → r ≡ 0 → s < 8
   stop_item s a d e = omega (arith, stop_ok m.plant (view_of m.plant m) s (zero (stop s) d e))
 
-  pub start_granted : (s t : ℕ) → m.plant.skids ≤ 8 → m.plant.tasks ≤ 16 → {r : ℕ} {left : Monitor} → Does m (start s t) r left → r ≡ 0
+  pub start_granted : (s t : ℕ) → (s < 8) × (t < 16) → {r : ℕ} {left : Monitor} → Does m (start s t) r left → r ≡ 0
       → Granted m.plant.task_rights left.running m.plant.skids (fill_from granted (s * 8) (rights_in m.plant.task_rights t) 8)
   unfolding stepped changed
-  start_granted s t a b d e =
-      let l = start_items s t a b d e in
-      rw (d.leaves, zero (start s t) d e) (task_put m.plant.task_rights m.running s l.0 G t l.1)
+  start_granted s t l d e = rw (d.leaves, zero (start s t) d e) (task_put m.plant.task_rights m.running s l.0 G t l.1)
 
-  pub stop_granted : (s : ℕ) → m.plant.skids ≤ 8 → {r : ℕ} {left : Monitor} → Does m (stop s) r left → r ≡ 0
+  pub stop_granted : (s : ℕ) → s < 8 → {r : ℕ} {left : Monitor} → Does m (stop s) r left → r ≡ 0
       → Granted m.plant.task_rights left.running m.plant.skids (fill_from granted (s * 8) (get_row (replicate 8 0)) 8)
   unfolding stepped changed
-  stop_granted s a d e = rw (d.leaves, zero (stop s) d e) (none_put m.plant.task_rights m.running s (stop_item s a d e) G)
+  stop_granted s l d e = rw (d.leaves, zero (stop s) d e) (none_put m.plant.task_rights m.running s l G)
+
+  -- the same where the counts are within the record: the call is accepted, and so its items are there
+  pub start_grants : (s t : ℕ) → m.plant.skids ≤ 8 → m.plant.tasks ≤ 16 → {r : ℕ} {left : Monitor} → Does m (start s t) r left → r ≡ 0
+      → Granted m.plant.task_rights left.running m.plant.skids (fill_from granted (s * 8) (rights_in m.plant.task_rights t) 8)
+  start_grants s t a b d e = start_granted s t (start_items s t a b d e) d e
+
+  pub stop_grants : (s : ℕ) → m.plant.skids ≤ 8 → {r : ℕ} {left : Monitor} → Does m (stop s) r left → r ≡ 0
+      → Granted m.plant.task_rights left.running m.plant.skids (fill_from granted (s * 8) (get_row (replicate 8 0)) 8)
+  stop_grants s a d e = stop_granted s (stop_item s a d e) d e
 
 -- the gate by them is the gate
 module _ (group rights running chosen : List ℕ) {skids : ℕ} {granted : List ℕ} (tanks : ℕ) (G : Granted rights running skids granted) (there : all_below (entry_below group 8) tanks ≡ true) where

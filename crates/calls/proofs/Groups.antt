@@ -12,7 +12,7 @@ use lib.Dec.{eqb}
 use lib.ListN.{length, get_or, set, replicate, length-replicate, get_or-replicate, length-set}
 use lib.Seq.{get_or-set_same, get_or-set_other, set-get_or, ext_get_or}
 use borrow.Author.Tests.{eqb-true, eqb-false, eq-eqb}
-use Rattle.std.specs.Prelude.{Option, Some, None, is_none, unwrap_or, Ok, Err}
+use Rattle.std.specs.Prelude.{Option, Some, None, is_none, unwrap_or, Result, Ok, Err, IfOk}
 use Rattle.base.specs.Below.{any_below}
 use Rattle.base.specs.Bits.{bit}
 use Rattle.base.specs.Chain.{◌gives◌, first}
@@ -22,9 +22,11 @@ use Rattle.base.proofs.Bits.{zero_bit}
 use Rattle.base.proofs.Shared.{within_lt}
 use Rattle.base.proofs.Members.{lowest_in, part_left, without_less}
 use Rattle.base.proofs.Filled.{fill_at, fill_length}
+use Rattle.refusal.specs.declared.Refusal.{Refusal}
 use Rattle.refusal.specs.declared.Refusal.TheVariants.{LevelNotSet, NoTankAtOrUnder}
+use Rattle.refusal.specs.Number.{answer_of}
 use Rattle.sets.specs.Members.{TakenFrom}
-use Rattle.calls.specs.Work.{wish_in, found_in, pick_in, row_in, RowDone}
+use Rattle.calls.specs.Work.{wish_in, found_in, pick_in, row_in, GroupDone, RowDone}
 
 -- a is that a level is unset, b that there is no tank
 abbrev number_of : Bool → Bool → ℕ
@@ -179,43 +181,47 @@ module _ (found : ℕ → ℕ → Option ℕ) (requirement levels : List ℕ) (s
   pub none_found : (need : ℕ) → FoundSoFar need need false (replicate 8 255)
   none_found need = record { so_far = none_yet unset_in none_in tank_in need refl }
 
-  -- what is found at one group
-  abbrev FoundAt : ℕ → List ℕ → ℕ → List ℕ → Type 0
-  FoundAt = OneDone unset_in none_in tank_in
+  pub one_done : {g : ℕ} {row : List ℕ} {n : ℕ} {row' : List ℕ} → GroupDone found requirement levels s t g row n row' → OneDone unset_in none_in tank_in g row n row'
+  one_done d = record { answers = d.answers; chooses = d.chooses }
+
+  -- the row of the set: a list of eight is what stands at its places
+  pub row_done : (need : ℕ) (outcome : Result (List ℕ) Refusal) {row : List ℕ} → IfOk outcome (λ r. (r ≡ row) × (length row ≡ 8)) → SetDone unset_in none_in tank_in need (answer_of outcome) row
+      → RowDone found requirement levels s t (bit need) 8 outcome
+  row_done need (Err r) e d = record { answers = d.answers; chooses = tt }
+  row_done need (Ok r) {row} e d = record {
+    answers = d.answers;
+    chooses = e.0 ∙ ext_get_or 0 row (row_in found requirement levels s t (bit need) 8)
+        (e.1 ∙ sym (fill_length _ (replicate 8 255) 8 ∙ length-replicate {A = ℕ} 8 255))
+        (λ g l.
+        let m : g < 8 = omega (arith, l, e.1) in
+        d.chooses refl g m ∙ sym (fill_at (pick_in found requirement levels s t (bit need)) (replicate 8 255) 8 g 0 (omega (arith, length-replicate {A = ℕ} 8 255)) m));
+  }
 
 module _ {found : ℕ → ℕ → Option ℕ} {requirement levels : List ℕ} {s t need rest : ℕ} {lacking : Bool} {row : List ℕ} (v : FoundSoFar found requirement levels s t need rest lacking row) where
   -- group g is taken from the rest, and `left` is the rest without it
   module _ {g left : ℕ} (l : g < 8) (T : TakenFrom rest g left) where
     pub ends_unset : unset_in found requirement levels s t g ≡ true → RowDone found requirement levels s t (bit need) 8 (Err LevelNotSet)
     ends_unset e =
-        let d : FoundAt found requirement levels s t g row 27 row = record { answers = rw e; chooses = rw e } in
-        record { answers = (ends_27 v.so_far g left l T.was_in T.leaves d refl).answers; chooses = tt }
+        let d : GroupDone found requirement levels s t g row 27 row = record { answers = rw e; chooses = rw e } in
+        record { answers = (ends_27 v.so_far g left l T.was_in T.leaves (one_done found requirement levels s t d) refl).answers; chooses = tt }
 
     module _ (e : unset_in found requirement levels s t g ≡ false) where
       pub tank_found : {k : ℕ} → found_in found requirement levels s t g ≡ Some k → FoundSoFar found requirement levels s t need left lacking (set row g k)
       tank_found {k} f =
-          let d : FoundAt found requirement levels s t g row 0 (set row g k) = record { answers = rw (e, f); chooses = rw (e, f) } in
-          record { so_far = stays v.so_far g left l T.was_in T.leaves d (λ z. omega (arith, z)) (λ z. omega (arith, z)) refl }
+          let d : GroupDone found requirement levels s t g row 0 (set row g k) = record { answers = rw (e, f); chooses = rw (e, f) } in
+          record { so_far = stays v.so_far g left l T.was_in T.leaves (one_done found requirement levels s t d) (λ z. omega (arith, z)) (λ z. omega (arith, z)) refl }
 
       -- the row has 255 there already
       pub tank_lacking : found_in found requirement levels s t g ≡ None → FoundSoFar found requirement levels s t need left true row
       tank_lacking f =
           let has : get_or row g 0 ≡ 255 = v.so_far.chooses g l ∙ rw (T.was_in, and-false (bit need g)) in
-          let d : FoundAt found requirement levels s t g row 28 row = record { answers = rw (e, f); chooses = rw (e, f) (sym (set-get_or row g 0) ∙ ap (set row g) has) } in
-          record { so_far = becomes_28 v.so_far g left l T.was_in T.leaves d (λ z. omega (arith, z)) refl refl }
+          let d : GroupDone found requirement levels s t g row 28 row = record { answers = rw (e, f); chooses = rw (e, f) (sym (set-get_or row g 0) ∙ ap (set row g) has) } in
+          record { so_far = becomes_28 v.so_far g left l T.was_in T.leaves (one_done found requirement levels s t d) (λ z. omega (arith, z)) refl refl }
 
   -- all are seen
   module _ (z : rest ≡ 0) where
     pub some_lack : lacking ≡ true → RowDone found requirement levels s t (bit need) 8 (Err NoTankAtOrUnder)
-    some_lack e = record { answers = sym (rw e) ∙ (all_seen v.so_far z).answers; chooses = tt }
+    some_lack e = row_done found requirement levels s t need (Err NoTankAtOrUnder) {row = row} tt (rw e at (all_seen v.so_far z))
 
-    -- the row of the set: a list of eight is what stands at its places
     pub all_found : lacking ≡ false → RowDone found requirement levels s t (bit need) 8 (Ok row)
-    all_found e = record {
-      answers = sym (rw e) ∙ (all_seen v.so_far z).answers;
-      chooses = ext_get_or 0 row (row_in found requirement levels s t (bit need) 8)
-          (v.so_far.size ∙ sym (fill_length _ (replicate 8 255) 8 ∙ length-replicate {A = ℕ} 8 255))
-          (λ g l.
-          let m : g < 8 = omega (arith, l, v.so_far.size) in
-          (all_seen v.so_far z).chooses (rw e) g m ∙ sym (fill_at (pick_in found requirement levels s t (bit need)) (replicate 8 255) 8 g 0 (omega (arith, length-replicate {A = ℕ} 8 255)) m));
-    }
+    all_found e = row_done found requirement levels s t need (Ok row) {row = row} (refl, v.so_far.size) (rw e at (all_seen v.so_far z))

@@ -8,9 +8,9 @@ use lib.Dec.{eqb, ltb}
 use lib.ListN.{get_or}
 use borrow.Author.Tests.{lt-ltb, eq-eqb}
 use Rattle.base.specs.Below.{all_below}
-use Rattle.base.proofs.Logic.{or_left, or_right}
+use Rattle.base.proofs.Logic.{and_both, or_left, or_right}
 use Rattle.base.proofs.Below.{all_yes}
-use Rattle.plant.specs.Plant.{levels_of, group_of}
+use Rattle.plant.specs.Plant.{requirement_of, levels_of, group_of, lattice_of}
 use Rattle.plant.specs.Checks.{entry_below, Sound}
 use Rattle.plant.specs.Valid.{Valid}
 use Rattle.plant.proofs.Valid.{valid}
@@ -18,6 +18,8 @@ use Rattle.rules.specs.declared.Monitor.{Monitor}
 use Rattle.rules.specs.Intact.{IntactView}
 use Rattle.rules.specs.Record.{view_of, level_at, has_level, intact}
 use Rattle.rules.proofs.IntactWords.{intact_means}
+use Rattle.choice.specs.Table.{link_in}
+use Rattle.choice.proofs.Table.{entries_wider}
 use Rattle.calls.specs.Work.{task_known, level_known}
 
 module _ (m : Monitor) (i : intact m.plant m ≡ true) where
@@ -30,9 +32,16 @@ module _ (m : Monitor) (i : intact m.plant m ≡ true) where
   skid_intact : (s : ℕ) → s < m.plant.skids → IntactView m.plant s (view_of m.plant m s)
   skid_intact = ((intact_means m.plant (view_of m.plant m)).0 i).skids_intact
 
+  pub links_there : all_below (link_in m.plant.requirement_lattice m.plant.group_requirement) m.plant.groups ≡ true
+  links_there = all_yes m.plant.groups (link_in m.plant.requirement_lattice m.plant.group_requirement)
+      (λ g l. let r = plant_valid.req_in g l in
+      and_both _ _ (lt-ltb (requirement_of m.plant g) 8 (omega (arith, plant_valid.counts.requirements_fit))) (lt-ltb (lattice_of m.plant (requirement_of m.plant g)) 8 (omega (arith, plant_valid.lattice_in (requirement_of m.plant g) r, plant_valid.counts.lattices_fit))))
+
+  pub groups_counted : all_below (entry_below m.plant.tank_group m.plant.groups) m.plant.tanks ≡ true
+  groups_counted = all_yes m.plant.tanks (entry_below m.plant.tank_group m.plant.groups) (λ o l. lt-ltb (group_of m.plant o) m.plant.groups (plant_valid.group_in o l))
+
   pub groups_there : all_below (entry_below m.plant.tank_group 8) m.plant.tanks ≡ true
-  groups_there = all_yes m.plant.tanks (entry_below m.plant.tank_group 8)
-      (λ o l. lt-ltb (group_of m.plant o) 8 (omega (arith, plant_valid.group_in o l, plant_valid.counts.groups_fit)))
+  groups_there = entries_wider m.plant.tank_group m.plant.groups 8 m.plant.tanks plant_valid.counts.groups_fit groups_counted
 
   pub tasks_known : all_below (task_known m.running) m.plant.skids ≡ true
   unfolding view_of

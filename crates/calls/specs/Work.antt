@@ -1,6 +1,7 @@
 -- What the code keeps beside the record while it serves a list (rights granted, groups needed), and what a start looks for, group by group. Each
 -- has its law in proofs/: on a record that passes test 20 it is what the rules say.
 use Rattle.std.specs.Prelude.{◌≡◌, ℕ, ◌+◌, ◌*◌, ◌<◌, Bool, true, not, cond, ◌&&◌, ◌||◌, List, [], ◌∷◌, eqb, ltb, leb, get_or, length, replicate, Option, None, is_none, unwrap_or, IfSome, Result, IfOk}
+use Rattle.std.proofs.Math.ListN as ListN
 use Rattle.base.specs.Below.{any_below}
 use Rattle.base.specs.Bits.{bit}
 use Rattle.base.specs.Chain.{Test, ◌gives◌, first}
@@ -79,6 +80,11 @@ module _ (found : ℕ → ℕ → Option ℕ) (requirement levels : List ℕ) (s
   -- the tank for the level of group g
   abbrev pub found_in : ℕ → Option ℕ
   found_in g = found g (wish_in requirement levels s t g)
+
+  -- what is found at one group, whose tank goes to the row
+  pub record GroupDone (g : ℕ) (row : List ℕ) (number : ℕ) (row' : List ℕ) : Type 0 where
+    pub answers : number ≡ first (eqb (wish_in requirement levels s t g) 255 gives 27 ∷ is_none (found_in g) gives 28 ∷ [])
+    pub chooses : row' ≡ cond (eqb (wish_in requirement levels s t g) 255) row (ListN.set row g (unwrap_or (found_in g) 255))
 
   module _ (needed : ℕ → Bool) where
     -- a group that is needed has no tank; and its tank as the row has it, 255 where it has none or is not needed

@@ -15,3 +15,9 @@ counted (x ∷ xs) ws {front} {rest} {end} h f w =
     let e : suc (0 + length ws) ≡ 0 + suc (length ws) = omega arith in
     ap (λ (l : List ℕ). set l 0 (end / 3) ++ rest) f
     ∙ ap₂ (λ (k : ℕ) (l : List ℕ). k / 3 ∷ l) n (w.bytes ∙ ap (λ (k : ℕ). ws ++ drop k (x ∷ xs)) e)
+
+-- the count goes in front
+pub overlay_front : (xs : List ℕ) (v : ℕ) (ws : List ℕ) → 1 ≤ length xs → set (overlay xs 1 ws) 0 v ≡ overlay xs 0 (v ∷ ws)
+unfolding overlay
+overlay_front [] v ws h = absurd (omega arith)
+overlay_front (x ∷ xs) v ws h = ap (λ (k : ℕ). v ∷ (ws ++ drop k (x ∷ xs))) (let e : 1 + length ws ≡ 0 + suc (length ws) = omega arith in e)

@@ -118,6 +118,10 @@ pub record Reading : Type 0 where
   pub answer : ℕ
   pub plant : Plant
 
+-- a refusal with number n
+abbrev pub refused_with : ℕ → Reading
+refused_with n = record { answer = n; plant = no_plant }
+
 -- What the reader returns: the number, and the plant where it is 0, or a plant of zeros.
 unfoldable pub reading_of : List ℕ → Reading
 reading_of file = record { answer = opening_refusal file; plant = cond (eqb (opening_refusal file) 0) (plant_of file) no_plant }

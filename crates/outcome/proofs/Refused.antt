@@ -1,5 +1,5 @@
 -- The number that refuses a batch, test by test, and the buffer that goes with it. Assumes nothing.
-use mathlib.Core.Path.{◌≡◌, refl, sym, subst, ◌∙◌}
+use mathlib.Core.Path.{◌≡◌, refl, sym, ap, subst, ◌∙◌}
 use mathlib.Core.Logic.{◌≢◌}
 use Prim.Native.Nat.{ℕ, ◌+◌, ◌/◌, ◌%◌, ◌≤◌, ◌<◌}
 use mathlib.Core.Bool.{Bool, true, cond}
@@ -17,7 +17,7 @@ use Rattle.base.proofs.Chain.{first_append, clear}
 use Rattle.refusal.specs.declared.Refusal.{Refusal}
 use Rattle.refusal.specs.Number.{number_of, answer_of}
 use Rattle.refusal.proofs.NotZero.{handed_on, not_0}
-use Rattle.opening.specs.Reading.{opening_checks, opening_refusal, reading_of}
+use Rattle.opening.specs.Reading.{Reading, opening_checks, opening_refusal, reading_of}
 use Rattle.plant.specs.Checks.{plant_refusal}
 use Rattle.plant.proofs.Sound.{sound_law}
 use Rattle.opening.proofs.Opening.{opens}
@@ -49,6 +49,11 @@ module _ (plant requests : List ℕ) where
     pub written : {out' : List ℕ} → 0 ≡ batch_refusal plant requests (length out) → out' ≡ overlay out 0 (outcome (reading_of plant).plant (batch_calls requests)) → (0 ≡ batch_refusal plant requests (length out)) × (out' ≡ batch_out plant requests out)
     unfolding batch_out
     written e h = (e, h ∙ rw (← e))
+
+  -- r is what the reader returned, and k the number made of it
+  module _ {r : Reading} (e : r ≡ reading_of plant) (room : ℕ) where
+    pub refusal_by_lem : {k : ℕ} → k ≡ refusal_by r.answer (length requests) room → k ≡ batch_refusal plant requests room
+    refusal_by_lem h = h ∙ ap (λ (x : Reading). refusal_by x.answer (length requests) room) e ∙ sym (refusal_is room)
 
 -- each test of the number
 module _ (opening bytes room : ℕ) where

@@ -2,6 +2,7 @@
 use Prim.Native.Nat.{ℕ, ◌+◌, ◌*◌, ◌≤◌, ◌<◌}
 use mathlib.Core.Path.{◌≡◌}
 use mathlib.Core.List.{List, [], ◌∷◌, ◌++◌}
+use native.Mathlib.Decide.{ℕ_discrete}
 use native.Mathlib.Omega.{arith}
 use lib.Dec.{eqb}
 use lib.ListN.{length, drop, get_or, length-append}
@@ -10,8 +11,9 @@ use Rattle.base.proofs.Logic.{split}
 use Rattle.base.proofs.Written.{collect_short}
 use Rattle.layout.specs.Layout.{byte_at}
 use Rattle.printing.specs.Decimal.{decimal}
-use Rattle.printing.specs.Text.{codes, line, answer_line, answer_line_at, answer_lines, right_line, right_line_at, right_lines, held_line, held_lines, refusal_line}
+use Rattle.printing.specs.Text.{codes, line, answer_line, answer_line_at, answer_lines, right_line, right_line_at, right_lines, held_line, held_lines, refusal_line, outcome_lines}
 use Rattle.printing.proofs.Decimal.{decimal_short}
+use Rattle.printing.proofs.Outcome.{refused_lines, accepted_lines}
 
 -- every element is a byte
 abbrev pub Bytes : List ℕ → Type 0
@@ -57,3 +59,11 @@ held_lines_short held b =
     let k = byte_at held 0 in
     omega
     (arith, length-append (held_line k) (right_lines (drop 1 held) k), held_short k (b 0), rights_short (drop 1 held) k (bytes_drop held 1 b), b 0)
+
+pub outcome_short : (number n : ℕ) (results : List ℕ) → number < 256 → n < 100000 → Bytes results → length (outcome_lines number n results) ≤ n * 10 + 3069
+outcome_short number n results l m b = elim (ℕ_discrete number 0) [
+  | yes e ↦
+      rw (accepted_lines number n results e)
+      (omega (arith, length-append (answer_lines results n) (held_lines (drop n results)), answers_short results n b m, held_lines_short (drop n results) (bytes_drop results n b)))
+  | no e ↦ rw (refused_lines number n results e) (omega (arith, refusal_short number l))
+]

@@ -36,7 +36,7 @@ pub fn with_one(x: u16, i: usize) -> u16
 }
 
 // The set x without the number i.
-#[tactic(auto, using(crate::proofs::Single::without_one_lem))]
+#[tactic(auto, using(crate::proofs::Single::masked_one_lem))]
 pub fn without_one(x: u16, i: usize) -> u16
     requires { i < 16 }
     ensures { (k : ℕ) → bit result k ≡ bit x k && not (eqb i k) }

@@ -3,7 +3,7 @@ use Rattle.std.proofs.Common.{refl, arith}
 use Rattle.refusal.proofs.NotZero.{not_0}
 use Rattle.calls.proofs.Ready.{plant_valid}
 use Rattle.calls.proofs.Steps.{plant_kept}
-use Rattle.calls.proofs.Grants.{start_items, start_granted, start_refused}
+use Rattle.calls.proofs.Grants.{start_items, start_grants, start_refused}
 use Rattle.turns.proofs.Batch.start.Goals as goal
 
 pub invariant_of-self : goal.invariant_of-self
@@ -35,6 +35,6 @@ invariant_of-self-3 c =
     record {
       keeps = rw (c.grant_row.ensures, c.from.ensures, c.from-2.ensures, ← plant_kept d) (record {
         tables = c.start_at.ensures.tables;
-        grants = start_granted _ batch.keeps.grants c.args.s c.args.t f.skids_fit f.tasks_fit d refl;
+        grants = start_grants _ batch.keeps.grants c.args.s c.args.t f.skids_fit f.tasks_fit d refl;
       });
     }

@@ -3,7 +3,7 @@ use Rattle.std.proofs.Common.{refl}
 use Rattle.refusal.proofs.NotZero.{not_0}
 use Rattle.calls.proofs.Ready.{plant_valid}
 use Rattle.calls.proofs.Steps.{plant_kept}
-use Rattle.calls.proofs.Grants.{stop_item, stop_granted, stop_refused}
+use Rattle.calls.proofs.Grants.{stop_item, stop_grants, stop_refused}
 use Rattle.turns.proofs.Batch.stop.Goals as goal
 
 pub invariant_of-self : goal.invariant_of-self
@@ -29,6 +29,6 @@ invariant_of-self-2 c =
     record {
       keeps = rw (c.put_row.ensures, c.from.ensures, ← plant_kept d) (record {
         tables = batch.keeps.tables;
-        grants = stop_granted _ batch.keeps.grants c.args.s (plant_valid _ batch.tested.passes_test_20).counts.skids_fit d refl;
+        grants = stop_grants _ batch.keeps.grants c.args.s (plant_valid _ batch.tested.passes_test_20).counts.skids_fit d refl;
       });
     }
