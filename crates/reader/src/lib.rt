@@ -4,6 +4,7 @@
 ghost use Rattle.std.specs.Prelude.{◌≡◌, IfOk};
 ghost use Rattle.opening.specs.Reading.{lattice_zeros, other_zeros, reading_of};
 ghost use Rattle.refusal.specs.Number.{answer_of};
+ghost use Rattle.reader.specs.Said.{said_by};
 
 use cells::zeros_at;
 use checks::check_plant;
@@ -38,6 +39,7 @@ fn other_zeros(file: PlantFile) -> bool
 pub fn read(file: &[u8]) -> Result<Checked, Refusal>
     ensures refused { answer_of result ≡ (reading_of file.now).answer }
     ensures plant { IfOk result (λ checked. checked.plant ≡ (reading_of file.now).plant) }
+    ensures reading { said_by result ≡ reading_of file.now }
 {
     let plant_file = check_header(file)?;
     let plant = plant_from(plant_file);

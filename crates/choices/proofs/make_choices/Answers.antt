@@ -1,5 +1,7 @@
 -- The table after a step has one tank more; at the end it has the choices.
-use Rattle.std.proofs.Common.{◌≡◌, ℕ, ◌-◌, ◌<◌, subst, arith}
+use Rattle.std.proofs.Common.{◌≡◌, ℕ, ◌-◌, ◌<◌, subst, ap, ◌∙◌, arith}
+use Rattle.plant.specs.Plant.{group_of}
+use Rattle.choice.specs.Table.{Put}
 use Rattle.choice.proofs.Table.{MadeFrom, made_none, made_next, made_all}
 use Rattle.choices.proofs.make_choices.Goals as goal
 
@@ -12,7 +14,7 @@ loop-o-preserved c =
     let o = c.loop-o.o - 1 in
     let k : o < P.tanks = omega (arith, c.loop-o-test.true) in
     made_next P c.requires.tanks_there o _ (rw (c.of-places.ensures, c.from-i.ensures) at c.near.ensures) c.loop-o.o (omega (arith, c.loop-o-test.true)) k _ _ c.loop-o.invariant
-    (rw (c.group_of.ensures, c.from-i.ensures) at c.put_choices.ensures)
+    (subst (λ (g : ℕ). Put g c.near.result o c.loop-o.made c.put_choices.new.made) (c.group_of.ensures ∙ ap (group_of P) c.from-i.ensures) c.put_choices.ensures)
 
 pub returns : goal.returns
 returns c =
