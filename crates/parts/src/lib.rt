@@ -130,6 +130,7 @@ pub fn check_header(file: &[u8]) -> Result<PlantFile<'_>, Refusal>
 
 // Where 01's section stands in the caller's bytes, for any bytes and any kind; an empty part at their start on refusal. A kind is a number here and in
 // `section`, and no `Section`: 01's section call answers each number, and C may ask for any.
+#[tactic(auto, using(crate::proofs::Beyond::place_beyond))]
 pub fn section_place(file: &[u8], kind: usize) -> Place
     ensures { result ≡ section_place file.now kind }
 {
